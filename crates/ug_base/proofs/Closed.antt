@@ -10,12 +10,12 @@ use Rattle.ug_branch.specs.Choices.{AreClosed}
 use Rattle.ug_problem.specs.Instances.{Instance}
 use Rattle.ug_propagate.specs.Working.{WorkState}
 use Rattle.ug_propagate.proofs.Parts.{part_below, part_set}
-use Rattle.ug_base.specs.declared.part.Part.{Part}
-use Rattle.ug_base.specs.Chains.{IsChain, area_of, closed_of, no_part}
+use Rattle.ug_base.specs.declared.open_box.OpenBox.{OpenBox}
+use Rattle.ug_base.specs.Chains.{IsChain, area_of, closed_of, no_open_box}
 use Rattle.ug_base.specs.Fronts.{front_of}
-use Rattle.ug_base.specs.declared.halving.Halving.{Halving}
-use Rattle.ug_base.specs.Looks.{IsSeenBranched}
-use Rattle.ug_base.proofs.Chains.{last_part}
+use Rattle.ug_base.specs.declared.branching.Branching.{Branching}
+use Rattle.ug_base.specs.Evaluations.{IsSeenBranched}
+use Rattle.ug_base.proofs.Chains.{last_open_box}
 
 stays_closed : (inner outer : Interval) → IsNarrower inner outer → outer.high ≤ℤ outer.low → inner.high ≤ℤ inner.low
 stays_closed inner outer n h = omega (arith, ints, n.low, n.high, h)
@@ -46,22 +46,22 @@ closed_more n area h here j less = elim (cases_eq j n) [
   | inr ne ↦ h j (omega (arith, ne, less))
 ]
 
-last_at : (parts : List Part) (last : Part) → slice_index_or (parts ++ last ∷ []) (length parts) no_part ≡ last
+last_at : (open_boxes : List OpenBox) (last : OpenBox) → slice_index_or (open_boxes ++ last ∷ []) (length open_boxes) no_open_box ≡ last
 last_at [] last = refl
-last_at (part ∷ parts) last = last_at parts last
+last_at (open_box ∷ open_boxes) last = last_at open_boxes last
 
-pub closed_of_last : (parts : List Part) (last : Part) → parts ≡ front_of parts ++ last ∷ [] → closed_of parts ≡ last.closed
-closed_of_last parts last e =
-    let n = ap (λ (ps : List Part). length ps) e in
-    let at : length parts - 1 ≡ length (front_of parts) = omega (arith, n, length-append (front_of parts) (last ∷ [])) in
-    ap (λ (i : ℕ). (slice_index_or parts i no_part).closed) at
-    ∙ ap (λ (ps : List Part). (slice_index_or ps (length (front_of parts)) no_part).closed) e
-    ∙ ap (λ (part : Part). part.closed) (last_at (front_of parts) last)
+pub closed_of_last : (open_boxes : List OpenBox) (last : OpenBox) → open_boxes ≡ front_of open_boxes ++ last ∷ [] → closed_of open_boxes ≡ last.closed
+closed_of_last open_boxes last e =
+    let n = ap (λ (ps : List OpenBox). length ps) e in
+    let at : length open_boxes - 1 ≡ length (front_of open_boxes) = omega (arith, n, length-append (front_of open_boxes) (last ∷ [])) in
+    ap (λ (i : ℕ). (slice_index_or open_boxes i no_open_box).closed) at
+    ∙ ap (λ (ps : List OpenBox). (slice_index_or ps (length (front_of open_boxes)) no_open_box).closed) e
+    ∙ ap (λ (open_box : OpenBox). open_box.closed) (last_at (front_of open_boxes) last)
 
 -- the columns that are closed in the last part's box are so in what is left of it
 pub left_closed : (s : Instance) (whole : List Interval) (cutoff : Option ℤ) (params : Params) (before after : WorkState)
-    (old : List Part) (last : Part) (halving : Halving) → IsChain s whole before old → old ≡ front_of old ++ last ∷ []
-    → IsSeenBranched s cutoff params (area_of before last) after halving → AreClosed (closed_of old) after.sums.area
-left_closed s whole cutoff params before after old last halving chain e seen =
+    (old : List OpenBox) (last : OpenBox) (branching : Branching) → IsChain s whole before old → old ≡ front_of old ++ last ∷ []
+    → IsSeenBranched s cutoff params (area_of before last) after branching → AreClosed (closed_of old) after.sums.area
+left_closed s whole cutoff params before after old last branching chain e seen =
     subst (λ (n : ℕ). AreClosed n after.sums.area) (sym (closed_of_last old last e))
-    (closed_below last.closed after.sums.area (area_of before last) seen.below (last_part s whole before old last chain e).closed)
+    (closed_below last.closed after.sums.area (area_of before last) seen.below (last_open_box s whole before old last chain e).closed)

@@ -14,10 +14,10 @@ use Rattle.ug_problem.specs.Instances.{Instance, bounds_of}
 use Rattle.ug_problem.specs.Better.{IsGood}
 use Rattle.ug_problem.proofs.Floors.{floor_bound, floor_within}
 use Rattle.ug_propagate.specs.Working.{WorkState}
-use Rattle.ug_base.specs.declared.part.Part.{Part}
-use Rattle.ug_base.specs.declared.parts.Kept.{Kept}
-use Rattle.ug_base.specs.Chains.{IsChain, area_of, areas_of, no_part}
-use Rattle.ug_base.specs.Floors.{AreLeasts, IsLeastOf, IsLeastSoFar, floor_at, floors_of, least_of, parts_in}
+use Rattle.ug_base.specs.declared.open_box.OpenBox.{OpenBox}
+use Rattle.ug_base.specs.declared.open_boxes.Kept.{Kept}
+use Rattle.ug_base.specs.Chains.{IsChain, area_of, areas_of, no_open_box}
+use Rattle.ug_base.specs.Floors.{AreLeasts, IsLeastOf, IsLeastSoFar, floor_at, floors_of, least_of, open_boxes_in}
 use Rattle.ug_base.specs.Tasks.{BoundsTheRest, IsLeastFloor, IsTask, TaskState, lesser_of}
 
 -- the smaller of two is one of them, and at most each
@@ -63,36 +63,36 @@ next_lowest floors n (Some low) here r l e same = elim (lesser_is low here) [
 ]
 
 -- one part more
-pub lowest_next : (parts : List Part) (n : ℕ) (lowest : Option ℤ) (here r : ℤ) → n < length parts
-    → IsLeastSoFar (floors_of parts) n lowest → here ≡ (slice_index_or parts n no_part).floor → r ≡ lesser_of lowest here
-    → IsLeastOf (floors_of parts) (n + 1) r
-lowest_next parts n lowest here r there l e same =
-    next_lowest (floors_of parts) n lowest here r l
-    (e ∙ sym (get_or-map (λ (part : Part). part.floor) parts n no_part (pos 0) there)) same
+pub lowest_next : (open_boxes : List OpenBox) (n : ℕ) (lowest : Option ℤ) (here r : ℤ) → n < length open_boxes
+    → IsLeastSoFar (floors_of open_boxes) n lowest → here ≡ (slice_index_or open_boxes n no_open_box).floor → r ≡ lesser_of lowest here
+    → IsLeastOf (floors_of open_boxes) (n + 1) r
+lowest_next open_boxes n lowest here r there l e same =
+    next_lowest (floors_of open_boxes) n lowest here r l
+    (e ∙ sym (get_or-map (λ (open_box : OpenBox). open_box.floor) open_boxes n no_open_box (pos 0) there)) same
 
 -- the least beside the last part is the least of all floors
-least_from : (all : List Part) (kept : List Kept) (n : ℕ) (before : Option ℤ) → n ≤ length all → drop n all ≡ parts_in kept
+least_from : (all : List OpenBox) (kept : List Kept) (n : ℕ) (before : Option ℤ) → n ≤ length all → drop n all ≡ open_boxes_in kept
     → IsLeastSoFar (floors_of all) n before → AreLeasts before kept
     → IsLeastSoFar (floors_of all) (length all) (least_of before kept)
 least_from all [] n before within e l h =
     subst (λ (k : ℕ). IsLeastSoFar (floors_of all) k before)
-    (omega (arith, within, length-drop n all, ap (λ (ps : List Part). length ps) e)) l
+    (omega (arith, within, length-drop n all, ap (λ (ps : List OpenBox). length ps) e)) l
 least_from all (one ∷ kept) n before within e l h =
-    let there : n < length all = omega (arith, length-drop n all, ap (λ (ps : List Part). length ps) e) in
-    let more : slice_index_or all n no_part ∷ drop (n + 1) all ≡ one.part ∷ parts_in kept = sym (drop_more all n no_part there) ∙ e in
-    let here : slice_index_or all n no_part ≡ one.part = ap (λ (ps : List Part). slice_index_or ps 0 no_part) more in
-    least_from all kept (n + 1) (Some one.least) (omega (arith, there)) (ap (λ (ps : List Part). drop 1 ps) more)
-    (lowest_next all n before one.part.floor one.least there l (ap (λ (q : Part). q.floor) (sym here)) h.0) h.1
+    let there : n < length all = omega (arith, length-drop n all, ap (λ (ps : List OpenBox). length ps) e) in
+    let more : slice_index_or all n no_open_box ∷ drop (n + 1) all ≡ one.open_box ∷ open_boxes_in kept = sym (drop_more all n no_open_box there) ∙ e in
+    let here : slice_index_or all n no_open_box ≡ one.open_box = ap (λ (ps : List OpenBox). slice_index_or ps 0 no_open_box) more in
+    least_from all kept (n + 1) (Some one.least) (omega (arith, there)) (ap (λ (ps : List OpenBox). drop 1 ps) more)
+    (lowest_next all n before one.open_box.floor one.least there l (ap (λ (q : OpenBox). q.floor) (sym here)) h.0) h.1
 
 some_least : (floors : List ℤ) (n : ℕ) (low : Option ℤ) → IsLeastSoFar floors n low → IfSome low (IsLeastOf floors n)
 some_least floors n None l = tt
 some_least floors n (Some low) l = l
 
-pub last_is_least : (parts : List Part) (kept : List Kept) (low : Option ℤ) → parts_in kept ≡ parts → AreLeasts None kept
-    → low ≡ least_of None kept → IfSome low (IsLeastOf (floors_of parts) (length parts))
-last_is_least parts kept low same h e =
-    some_least (floors_of parts) (length parts) low
-    (subst (IsLeastSoFar (floors_of parts) (length parts)) (sym e) (least_from parts kept 0 None (omega arith) (sym same) refl h))
+pub last_is_least : (open_boxes : List OpenBox) (kept : List Kept) (low : Option ℤ) → open_boxes_in kept ≡ open_boxes → AreLeasts None kept
+    → low ≡ least_of None kept → IfSome low (IsLeastOf (floors_of open_boxes) (length open_boxes))
+last_is_least open_boxes kept low same h e =
+    some_least (floors_of open_boxes) (length open_boxes) low
+    (subst (IsLeastSoFar (floors_of open_boxes) (length open_boxes)) (sym e) (least_from open_boxes kept 0 None (omega arith) (sym same) refl h))
 
 none_is : (low : Option ℤ) → IsNone low → low ≡ None
 none_is None h = refl
@@ -102,39 +102,39 @@ some_of : (low : ℤ) (kept : List Kept) → least_of (Some low) kept ≡ None �
 some_of low [] e = absurd (cc)
 some_of low (one ∷ kept) e = some_of one.least kept e
 
-least_none : (kept : List Kept) → IsNone (least_of None kept) ↔ (parts_in kept ≡ [])
+least_none : (kept : List Kept) → IsNone (least_of None kept) ↔ (open_boxes_in kept ≡ [])
 least_none [] = ((λ h. refl), (λ e. refl))
 least_none (one ∷ kept) = (
   (λ h. absurd (some_of one.least kept (none_is (least_of (Some one.least) kept) h))),
-  (λ e. absurd (omega (arith, ap (λ (ps : List Part). length ps) e))),
+  (λ e. absurd (omega (arith, ap (λ (ps : List OpenBox). length ps) e))),
 )
 
 -- there is no least exactly where there is no part
-pub none_least : (parts : List Part) (kept : List Kept) (low : Option ℤ) → parts_in kept ≡ parts → low ≡ least_of None kept
-    → IsNone low ↔ (parts ≡ [])
-none_least parts kept low same e =
-    subst (λ (o : Option ℤ). IsNone o ↔ (parts ≡ [])) (sym e)
-    (subst (λ (ps : List Part). IsNone (least_of None kept) ↔ (ps ≡ [])) same (least_none kept))
+pub none_least : (open_boxes : List OpenBox) (kept : List Kept) (low : Option ℤ) → open_boxes_in kept ≡ open_boxes → low ≡ least_of None kept
+    → IsNone low ↔ (open_boxes ≡ [])
+none_least open_boxes kept low same e =
+    subst (λ (o : Option ℤ). IsNone o ↔ (open_boxes ≡ [])) (sym e)
+    (subst (λ (ps : List OpenBox). IsNone (least_of None kept) ↔ (ps ≡ [])) same (least_none kept))
 
 -- the least of the floors is the least floor of the boxes
-lowest_by : (p : Instance) (whole : List Interval) (work : WorkState) (parts : List Part) (lowest : Option ℤ)
-    → IsChain p whole work parts → IfSome lowest (IsLeastOf (floors_of parts) (length parts))
-    → IfSome lowest (IsLeastFloor p (areas_of work parts))
-lowest_by p whole work parts None chain l = tt
-lowest_by p whole work parts (Some low) chain l =
-    let area_at : (k : ℕ) (d : List Interval) → k < length parts
-    → slice_index_or (areas_of work parts) k d ≡ area_of work (slice_index_or parts k no_part) =
-    λ k d there. get_or-map (area_of work) parts k no_part d there in
-    let floor_is : (k : ℕ) → k < length parts
-    → floor_at (floors_of parts) k ≡ box_floor p.objective (area_of work (slice_index_or parts k no_part)) =
-    λ k there. get_or-map (λ (part : Part). part.floor) parts k no_part (pos 0) there ∙ (chain.each k no_part there).floor in
-    let wide : length (areas_of work parts) ≡ length parts = length-map parts (area_of work) in
+lowest_by : (p : Instance) (whole : List Interval) (work : WorkState) (open_boxes : List OpenBox) (lowest : Option ℤ)
+    → IsChain p whole work open_boxes → IfSome lowest (IsLeastOf (floors_of open_boxes) (length open_boxes))
+    → IfSome lowest (IsLeastFloor p (areas_of work open_boxes))
+lowest_by p whole work open_boxes None chain l = tt
+lowest_by p whole work open_boxes (Some low) chain l =
+    let area_at : (k : ℕ) (d : List Interval) → k < length open_boxes
+    → slice_index_or (areas_of work open_boxes) k d ≡ area_of work (slice_index_or open_boxes k no_open_box) =
+    λ k d there. get_or-map (area_of work) open_boxes k no_open_box d there in
+    let floor_is : (k : ℕ) → k < length open_boxes
+    → floor_at (floors_of open_boxes) k ≡ box_floor p.objective (area_of work (slice_index_or open_boxes k no_open_box)) =
+    λ k there. get_or-map (λ (open_box : OpenBox). open_box.floor) open_boxes k no_open_box (pos 0) there ∙ (chain.each k no_open_box there).floor in
+    let wide : length (areas_of work open_boxes) ≡ length open_boxes = length-map open_boxes (area_of work) in
     record {
-      area = area_of work (slice_index_or parts l.at no_part);
+      area = area_of work (slice_index_or open_boxes l.at no_open_box);
       among = (l.at, omega (arith, l.there, wide), area_at l.at _ l.there);
       reached = sym (floor_is l.at l.there) ∙ l.reached;
       least = λ other c.
-          let there : c.0 < length parts = omega (arith, c.1, wide) in
+          let there : c.0 < length open_boxes = omega (arith, c.1, wide) in
           subst (λ (a : List Interval). low ≤ℤ box_floor p.objective a) (sym (area_at c.0 other there) ∙ c.2)
           (subst (λ (v : ℤ). low ≤ℤ v) (floor_is c.0 there) (l.least c.0 there));
     }
@@ -150,11 +150,11 @@ floor_with p s boxes (Some low) same l = record {
 }
 
 -- so of a search over s, whose objective is that of p
-pub lowest_of : (p s : Instance) (whole : List Interval) (work : WorkState) (parts : List Part) (lowest : Option ℤ)
-    → s.objective ≡ p.objective → IsChain s whole work parts → IfSome lowest (IsLeastOf (floors_of parts) (length parts))
-    → IfSome lowest (IsLeastFloor p (areas_of work parts))
-lowest_of p s whole work parts lowest same chain l =
-    floor_with p s (areas_of work parts) lowest same (lowest_by s whole work parts lowest chain l)
+pub lowest_of : (p s : Instance) (whole : List Interval) (work : WorkState) (open_boxes : List OpenBox) (lowest : Option ℤ)
+    → s.objective ≡ p.objective → IsChain s whole work open_boxes → IfSome lowest (IsLeastOf (floors_of open_boxes) (length open_boxes))
+    → IfSome lowest (IsLeastFloor p (areas_of work open_boxes))
+lowest_of p s whole work open_boxes lowest same chain l =
+    floor_with p s (areas_of work open_boxes) lowest same (lowest_by s whole work open_boxes lowest chain l)
 
 -- a point in one of the boxes is in a box among them
 box_with : (boxes : List (List Interval)) (x : List ℤ) → IsInOne boxes x → (area : List Interval) × Contains boxes area × IsInside area x

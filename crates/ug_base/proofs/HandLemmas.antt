@@ -4,7 +4,7 @@ use Rattle.std.proofs.lemmas.List.Elements.{All-append, All-cons, All-head, All-
 use Rattle.ug_rows.specs.declared.area.Interval.{Interval}
 use Rattle.ug_rows.specs.Boxes.{IsBelow, IsInOne}
 use Rattle.ug_propagate.specs.Working.{WorkState}
-use Rattle.ug_base.specs.declared.part.Part.{Part}
+use Rattle.ug_base.specs.declared.open_box.OpenBox.{OpenBox}
 use Rattle.ug_base.specs.Covers.{AreCovered}
 use Rattle.ug_base.specs.Hands.{IsMoved}
 use Rattle.ug_base.specs.Chains.{areas_of}
@@ -45,7 +45,7 @@ handed_task_by t boxes handed area task m =
     }
 
 -- of the fields of a task
-pub handed_task : (t : TaskState) (work : WorkState) (old new : List Part) (handed : List (List Interval)) (area : List Interval)
+pub handed_task : (t : TaskState) (work : WorkState) (old new : List OpenBox) (handed : List (List Interval)) (area : List Interval)
     → t.boxes ≡ areas_of work old → IsTask t → IsMoved work old new t.handed handed area
     → IsTask (record t { boxes = areas_of work new; handed = handed })
 handed_task t work old new handed area same task m =
@@ -55,6 +55,6 @@ handed_task t work old new handed area same task m =
     })
 
 -- the first of the boxes left is handed
-pub handed_first : (work : WorkState) (old new : List Part) (handed_old handed_new : List (List Interval)) (area : List Interval)
+pub handed_first : (work : WorkState) (old new : List OpenBox) (handed_old handed_new : List (List Interval)) (area : List Interval)
     → IsMoved work old new handed_old handed_new area → areas_of work old ≡ area ∷ areas_of work new
 handed_first work old new handed_old handed_new area m = m.boxes

@@ -14,10 +14,10 @@ use Rattle.ug_propagate.specs.declared.working.Trailed.{Trailed}
 use Rattle.ug_propagate.specs.Working.{AreTrailed, IsOver, WorkState, undone}
 use Rattle.ug_propagate.proofs.Stepping.{max_span_below}
 use Rattle.ug_branch.specs.Choices.{AreClosed}
-use Rattle.ug_base.specs.declared.part.Narrowing.{Narrowing}
-use Rattle.ug_base.specs.declared.part.Part.{Part}
-use Rattle.ug_base.specs.Chains.{IsChain, IsCut, IsPart, Rise, area_of, areas_of, base_of, narrowed, unsettled}
-use Rattle.ug_base.specs.declared.parts.Kept.{Kept}
+use Rattle.ug_base.specs.declared.open_box.Narrowing.{Narrowing}
+use Rattle.ug_base.specs.declared.open_box.OpenBox.{OpenBox}
+use Rattle.ug_base.specs.Chains.{IsChain, IsCut, IsOpenBox, Rise, area_of, areas_of, base_of, narrowed, unsettled}
+use Rattle.ug_base.specs.declared.open_boxes.Kept.{Kept}
 use Rattle.ug_base.specs.Floors.{unsettled_kept}
 use Rattle.ug_base.proofs.Leasts.{no_kept}
 
@@ -55,28 +55,28 @@ all_unsettled old new k all h = ext_get_or no_kept new (map unsettled_kept old) 
     h.done i (omega (arith, there, all)) there ∙ sym (get_or-map unsettled_kept old i no_kept no_kept there))
 
 -- the boxes of parts do not depend on how rows rested
-pub areas_unsettled : (work : WorkState) (parts : List Part) → areas_of work (map unsettled parts) ≡ areas_of work parts
+pub areas_unsettled : (work : WorkState) (open_boxes : List OpenBox) → areas_of work (map unsettled open_boxes) ≡ areas_of work open_boxes
 areas_unsettled work [] = refl
-areas_unsettled work (part ∷ parts) = ap (λ bs. area_of work part ∷ bs) (areas_unsettled work parts)
+areas_unsettled work (open_box ∷ open_boxes) = ap (λ bs. area_of work open_box ∷ bs) (areas_unsettled work open_boxes)
 
 -- nor on the rows
-base_over : (s : Instance) (whole : List Interval) (old new : WorkState) (part : Part) → IsOver s whole old new
-    → base_of new part ≡ base_of old part
-base_over s whole old new part over =
-    ap (λ (t : List Trailed). undone new.sums.area (drop part.depth t)) over.trail
-    ∙ ap (λ (a : List Interval). undone a (drop part.depth old.trail)) over.area
+base_over : (s : Instance) (whole : List Interval) (old new : WorkState) (open_box : OpenBox) → IsOver s whole old new
+    → base_of new open_box ≡ base_of old open_box
+base_over s whole old new open_box over =
+    ap (λ (t : List Trailed). undone new.sums.area (drop open_box.depth t)) over.trail
+    ∙ ap (λ (a : List Interval). undone a (drop open_box.depth old.trail)) over.area
 
-areas_over_each : (s : Instance) (whole : List Interval) (old new : WorkState) (parts : List Part) → IsOver s whole old new
-    → areas_of new parts ≡ areas_of old parts
+areas_over_each : (s : Instance) (whole : List Interval) (old new : WorkState) (open_boxes : List OpenBox) → IsOver s whole old new
+    → areas_of new open_boxes ≡ areas_of old open_boxes
 areas_over_each s whole old new [] over = refl
-areas_over_each s whole old new (part ∷ parts) over =
-    ap (λ (a : List Interval). narrowed part.cut a ∷ areas_of new parts) (base_over s whole old new part over)
-    ∙ ap (λ bs. area_of old part ∷ bs) (areas_over_each s whole old new parts over)
+areas_over_each s whole old new (open_box ∷ open_boxes) over =
+    ap (λ (a : List Interval). narrowed open_box.cut a ∷ areas_of new open_boxes) (base_over s whole old new open_box over)
+    ∙ ap (λ bs. area_of old open_box ∷ bs) (areas_over_each s whole old new open_boxes over)
 
-pub areas_over : (s : Instance) (whole : List Interval) (old new : WorkState) (parts after : List Part) → IsOver s whole old new
-    → after ≡ map unsettled parts → areas_of new after ≡ areas_of old parts
-areas_over s whole old new parts after over e =
-    ap (areas_of new) e ∙ areas_unsettled new parts ∙ areas_over_each s whole old new parts over
+pub areas_over : (s : Instance) (whole : List Interval) (old new : WorkState) (open_boxes after : List OpenBox) → IsOver s whole old new
+    → after ≡ map unsettled open_boxes → areas_of new after ≡ areas_of old open_boxes
+areas_over s whole old new open_boxes after over e =
+    ap (areas_of new) e ∙ areas_unsettled new open_boxes ∙ areas_over_each s whole old new open_boxes over
 
 cut_over : (p s : Instance) (base : List Interval) (cut : Option Narrowing) → s.columns ≡ p.columns → IsCut p base cut → IsCut s base cut
 cut_over p s base None same h = tt
@@ -86,49 +86,49 @@ cut_over p s base (Some cut) same h = record {
   some = h.some;
 }
 
-part_over : (p s : Instance) (whole : List Interval) (old new : WorkState) (part : Part) → s.columns ≡ p.columns
-    → s.objective ≡ p.objective → IsOver s whole old new → IsPart p whole old part → IsPart s whole new (unsettled part)
-part_over p s whole old new part columns objective over is =
-    let same : base_of old part ≡ base_of new part = sym (base_over s whole old new part over) in
+open_box_over : (p s : Instance) (whole : List Interval) (old new : WorkState) (open_box : OpenBox) → s.columns ≡ p.columns
+    → s.objective ≡ p.objective → IsOver s whole old new → IsOpenBox p whole old open_box → IsOpenBox s whole new (unsettled open_box)
+open_box_over p s whole old new open_box columns objective over is =
+    let same : base_of old open_box ≡ base_of new open_box = sym (base_over s whole old new open_box over) in
     record {
       deep = omega (arith, is.deep, ap (λ (t : List Trailed). length t) over.trail);
       below = subst (λ (a : List Interval). IsBelow a whole) same is.below;
-      cut = subst (λ (a : List Interval). IsCut s a part.cut) same (cut_over p s (base_of old part) part.cut columns is.cut);
+      cut = subst (λ (a : List Interval). IsCut s a open_box.cut) same (cut_over p s (base_of old open_box) open_box.cut columns is.cut);
       fixpoint = tt;
-      floor = subst (λ (o : Objective). part.floor ≡ box_floor o (area_of new part)) (sym objective)
-          (subst (λ (a : List Interval). part.floor ≡ box_floor p.objective (narrowed part.cut a)) same is.floor);
-      closed = subst (λ (a : List Interval). AreClosed part.closed (narrowed part.cut a)) same is.closed;
+      floor = subst (λ (o : Objective). open_box.floor ≡ box_floor o (area_of new open_box)) (sym objective)
+          (subst (λ (a : List Interval). open_box.floor ≡ box_floor p.objective (narrowed open_box.cut a)) same is.floor);
+      closed = subst (λ (a : List Interval). AreClosed open_box.closed (narrowed open_box.cut a)) same is.closed;
     }
 
-parts_over : (p s : Instance) (whole : List Interval) (old new : WorkState) (parts : List Part) → s.columns ≡ p.columns
-    → s.objective ≡ p.objective → IsOver s whole old new → All (IsPart p whole old) parts → All (IsPart s whole new) (map unsettled parts)
-parts_over p s whole old new [] columns objective over each = All-nil (IsPart s whole new)
-parts_over p s whole old new (part ∷ parts) columns objective over each =
-    All-cons (IsPart s whole new) (unsettled part) (map unsettled parts)
-    (part_over p s whole old new part columns objective over (All-head (IsPart p whole old) part parts each))
-    (parts_over p s whole old new parts columns objective over (All-tail (IsPart p whole old) part parts each))
+open_boxes_over : (p s : Instance) (whole : List Interval) (old new : WorkState) (open_boxes : List OpenBox) → s.columns ≡ p.columns
+    → s.objective ≡ p.objective → IsOver s whole old new → All (IsOpenBox p whole old) open_boxes → All (IsOpenBox s whole new) (map unsettled open_boxes)
+open_boxes_over p s whole old new [] columns objective over each = All-nil (IsOpenBox s whole new)
+open_boxes_over p s whole old new (open_box ∷ open_boxes) columns objective over each =
+    All-cons (IsOpenBox s whole new) (unsettled open_box) (map unsettled open_boxes)
+    (open_box_over p s whole old new open_box columns objective over (All-head (IsOpenBox p whole old) open_box open_boxes each))
+    (open_boxes_over p s whole old new open_boxes columns objective over (All-tail (IsOpenBox p whole old) open_box open_boxes each))
 
-deep_over : (depth : ℕ) (parts : List Part) → All (λ (later : Part). depth ≤ later.depth) parts
-    → All (λ (later : Part). depth ≤ later.depth) (map unsettled parts)
-deep_over depth [] h = All-nil (λ (later : Part). depth ≤ later.depth)
-deep_over depth (part ∷ parts) h =
-    let P : Part → Type 0 = λ (later : Part). depth ≤ later.depth in
-    All-cons P (unsettled part) (map unsettled parts) (All-head P part parts h) (deep_over depth parts (All-tail P part parts h))
+deep_over : (depth : ℕ) (open_boxes : List OpenBox) → All (λ (later : OpenBox). depth ≤ later.depth) open_boxes
+    → All (λ (later : OpenBox). depth ≤ later.depth) (map unsettled open_boxes)
+deep_over depth [] h = All-nil (λ (later : OpenBox). depth ≤ later.depth)
+deep_over depth (open_box ∷ open_boxes) h =
+    let P : OpenBox → Type 0 = λ (later : OpenBox). depth ≤ later.depth in
+    All-cons P (unsettled open_box) (map unsettled open_boxes) (All-head P open_box open_boxes h) (deep_over depth open_boxes (All-tail P open_box open_boxes h))
 
-rise_over : (parts : List Part) → Rise parts → Rise (map unsettled parts)
+rise_over : (open_boxes : List OpenBox) → Rise open_boxes → Rise (map unsettled open_boxes)
 rise_over [] h = tt
-rise_over (part ∷ parts) h = (deep_over part.depth parts h.0, rise_over parts h.1)
+rise_over (open_box ∷ open_boxes) h = (deep_over open_box.depth open_boxes h.0, rise_over open_boxes h.1)
 
 -- the parts of a search, over another formulation with the same columns and objective
-pub chain_over : (p s : Instance) (whole : List Interval) (old new : WorkState) (parts after : List Part) → s.columns ≡ p.columns
+pub chain_over : (p s : Instance) (whole : List Interval) (old new : WorkState) (open_boxes after : List OpenBox) → s.columns ≡ p.columns
     → s.objective ≡ p.objective → IsProblem s → length whole ≡ length s.columns → IsBelow old.sums.area whole → IsOver s whole old new
-    → after ≡ map unsettled parts → IsChain p whole old parts → IsChain s whole new after
-chain_over p s whole old new parts after columns objective problem wide below over e chain =
+    → after ≡ map unsettled open_boxes → IsChain p whole old open_boxes → IsChain s whole new after
+chain_over p s whole old new open_boxes after columns objective problem wide below over e chain =
     let area : IsBelow new.sums.area whole = subst (λ (a : List Interval). IsBelow a whole) (sym over.area) below in
     let trail : AreTrailed (length s.columns) new.trail =
     subst (λ (cs : List Column). AreTrailed (length cs) new.trail) (sym columns)
     (subst (AreTrailed (length p.columns)) (sym over.trail) chain.base.trail) in
-    subst (λ (ps : List Part). IsChain s whole new ps) (sym e) (record {
+    subst (λ (ps : List OpenBox). IsChain s whole new ps) (sym e) (record {
       base = record {
         box = record {
           sums = over.sums;
@@ -138,6 +138,6 @@ chain_over p s whole old new parts after columns objective problem wide below ov
         trail = trail;
         max_span = over.max_span;
       };
-      each = parts_over p s whole old new parts columns objective over chain.each;
-      rising = rise_over parts chain.rising;
+      each = open_boxes_over p s whole old new open_boxes columns objective over chain.each;
+      rising = rise_over open_boxes chain.rising;
     })

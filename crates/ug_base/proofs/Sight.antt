@@ -19,13 +19,13 @@ use Rattle.ug_propagate.specs.Working.{IsWorking, WorkState}
 use Rattle.ug_propagate.proofs.Answers.{told_tightened}
 use Rattle.ug_propagate.proofs.Bodies.{rounds_none, rounds_some}
 use Rattle.ug_problem.specs.declared.column.NamedRow.{NamedRow}
-use Rattle.ug_base.specs.declared.look.Seen.{Seen}
-use Rattle.ug_base.specs.declared.look.Seen.TheVariants.{Hopeless, Solved, Halved}
+use Rattle.ug_base.specs.declared.evaluation.Seen.{Seen}
+use Rattle.ug_base.specs.declared.evaluation.Seen.TheVariants.{Hopeless, Solved, Branched}
 use Rattle.ug_base.specs.Points.{points_of, weight_of}
 use Rattle.ug_base.specs.Steps.{IsHopeless}
-use Rattle.ug_base.specs.declared.halving.Halving.{Halving}
-use Rattle.ug_base.specs.Halvings.{IsMidway, first_half, other_half}
-use Rattle.ug_base.specs.Looks.{AreHalved, CanLook, Halves, IsBranched, IsInSight, IsOnly, IsSeen, IsSeenBranched, IsSeenHalved, halves_at, IsSeenHopeless, IsSeenSolved, lows_of}
+use Rattle.ug_base.specs.declared.branching.Branching.{Branching}
+use Rattle.ug_base.specs.Branchings.{IsMidway, first_half, other_half}
+use Rattle.ug_base.specs.Evaluations.{AreBranched, CanEvaluate, Halves, IsBranched, IsInSight, IsOnly, IsSeen, IsSeenBranched, IsSeenSplit, halves_at, IsSeenHopeless, IsSeenSolved, lows_of}
 use Rattle.ug_rows.proofs.AreaLemmas.{below_trans}
 use Rattle.ug_base.proofs.Measures.{count_halves, points_below, points_halves, points_set_some, weights_fall}
 
@@ -67,7 +67,7 @@ pub no_point : (area : List Interval) (x : List ℤ) → IsCrossed area → IsIn
 no_point area x c h = crossed_has_none _ _ (value_at x c.0) c.2 (h.each c.0 c.1).low (h.each c.0 c.1).high
 
 -- a box of a problem may be tightened
-pub can_tighten : (p : Instance) (cutoff : Option ℤ) (area : List Interval) → CanLook p cutoff area → CanTighten p cutoff area
+pub can_tighten : (p : Instance) (cutoff : Option ℤ) (area : List Interval) → CanEvaluate p cutoff area → CanTighten p cutoff area
 can_tighten p cutoff area can = record { width = can.below.width ∙ length-map p.columns bounds_of; small = can.small }
 
 both_ways : (a b : ℤ) → a <ℤ b → b ≤ℤ a → ⊥
@@ -96,7 +96,7 @@ left_crossed p cutoff area inner t c = record {
 
 -- one point is left
 left_one : (p : Instance) (cutoff : Option ℤ) (area inner : List Interval) (x : List ℤ)
-    → CanLook p cutoff area → IsTightened p cutoff area (Kept inner) → IsOnly inner x → IsSeenSolved p cutoff area x
+    → CanEvaluate p cutoff area → IsTightened p cutoff area (Kept inner) → IsOnly inner x → IsSeenSolved p cutoff area x
 left_one p cutoff area inner x r t o = record {
   inner = inner;
   left = sym t.value;
@@ -156,23 +156,23 @@ ordered_less Upper inner branch n h = h
 
 -- branches are left
 left_halves : (p : Instance) (cutoff : Option ℤ) (params : Params) (area inner : List Interval) (halves : Halves)
-    → IsTightened p cutoff area (Kept inner) → AreHalved params inner halves → IsSeenHalved p cutoff params area halves
+    → IsTightened p cutoff area (Kept inner) → AreBranched params inner halves → IsSeenSplit p cutoff params area halves
 left_halves p cutoff params area inner halves t h =
-    let half = h.halving.first in
-    let branch = h.halving.branch in
-    let lower : IsBelow (lower_half inner branch) area = below_trans _ _ _ h.parts.lower t.below in
-    let upper : IsBelow (upper_half inner branch) area = below_trans _ _ _ h.parts.upper t.below in
+    let half = h.branching.first in
+    let branch = h.branching.branch in
+    let lower : IsBelow (lower_half inner branch) area = below_trans _ _ _ h.open_boxes.lower t.below in
+    let upper : IsBelow (upper_half inner branch) area = below_trans _ _ _ h.open_boxes.upper t.below in
     record {
       inner = inner;
       left = sym t.value;
       some = h.some;
-      halving = h.halving;
+      branching = h.branching;
       may = h.may;
       ordered = h.ordered;
       good = record {
         below_first = subst (λ a. IsBelow a area) (sym h.ordered.first) (ordered_first half inner branch (λ a. IsBelow a area) lower upper);
         below_second = subst (λ a. IsBelow a area) (sym h.ordered.second) (ordered_other half inner branch (λ a. IsBelow a area) lower upper);
-        kept = λ y i g. rw (h.ordered.first, h.ordered.second) (ordered_kept half inner branch y ((h.parts.halves y).0 (t.kept y i g)));
+        kept = λ y i g. rw (h.ordered.first, h.ordered.second) (ordered_kept half inner branch y ((h.open_boxes.halves y).0 (t.kept y i g)));
       };
       less = subst (λ a. weight_of a + weight_of halves.first < weight_of area) (sym h.ordered.second)
           (subst (λ b. weight_of (other_half half inner branch) + weight_of b < weight_of area) (sym h.ordered.first)
@@ -180,16 +180,16 @@ left_halves p cutoff params area inner halves t h =
     }
 
 -- the branches at a branch
-branch_halves : (p : Instance) (cutoff : Option ℤ) (params : Params) (area : List Interval) (work : WorkState) (halving : Halving)
-    → IsTightened p cutoff area (Kept work.sums.area) → IsWorking p cutoff work → IsBranched params work.sums.area halving
-    → IsSeenBranched p cutoff params area work halving
-branch_halves p cutoff params area work halving t working h = record {
-  halved = left_halves p cutoff params area work.sums.area (halves_at halving.first work.sums.area halving.branch) t (record {
+branch_halves : (p : Instance) (cutoff : Option ℤ) (params : Params) (area : List Interval) (work : WorkState) (branching : Branching)
+    → IsTightened p cutoff area (Kept work.sums.area) → IsWorking p cutoff work → IsBranched params work.sums.area branching
+    → IsSeenBranched p cutoff params area work branching
+branch_halves p cutoff params area work branching t working h = record {
+  halved = left_halves p cutoff params area work.sums.area (halves_at branching.first work.sums.area branching.branch) t (record {
     some = h.some;
-    halving = halving;
+    branching = branching;
     may = h.may;
     midway = h.midway;
-    parts = h.parts;
+    open_boxes = h.open_boxes;
     ordered = record { first = refl; second = refl };
   });
   branched = h;
@@ -201,14 +201,14 @@ branch_halves p cutoff params area work halving t working h = record {
 
 -- each point in the rest of a box is a point of the box
 pub seen_inside : (p : Instance) (cutoff : Option ℤ) (params : Params) (area : List Interval) (work : WorkState) (seen : Seen)
-    → CanLook p cutoff area → IsTightened p cutoff area (Kept work.sums.area) → IsWorking p cutoff work
+    → CanEvaluate p cutoff area → IsTightened p cutoff area (Kept work.sums.area) → IsWorking p cutoff work
     → IsInSight params work.sums.area seen → IsSeen p cutoff params area work seen
 seen_inside p cutoff params area work (Hopeless reason) r t w s = left_crossed p cutoff area work.sums.area t s
 seen_inside p cutoff params area work (Solved x) r t w s = left_one p cutoff area work.sums.area x r t s
-seen_inside p cutoff params area work (Halved halving) r t w s = branch_halves p cutoff params area work halving t w s
+seen_inside p cutoff params area work (Branched branching) r t w s = branch_halves p cutoff params area work branching t w s
 
 -- what the rounds leave of a box with a point
-pub tightened_as : (p : Instance) (cutoff : Option ℤ) (area : List Interval) (tight : Tight) → CanLook p cutoff area → IsNonEmpty area
+pub tightened_as : (p : Instance) (cutoff : Option ℤ) (area : List Interval) (tight : Tight) → CanEvaluate p cutoff area → IsNonEmpty area
     → tight ≡ last_round p cutoff (rounds_of 32 p cutoff (Kept area)) → IsTightened p cutoff area tight
 tightened_as p cutoff area tight can some e =
     told_tightened {E = ℕ} p cutoff area (Ok tight) can.problem (can_tighten p cutoff area can) (e ∙ sym (rounds_some p cutoff area some))
@@ -231,7 +231,7 @@ crossed_hopeless p cutoff area c = record {
 }
 
 -- the rest of a box has at most 10,000 columns
-pub few_columns : (p : Instance) (cutoff : Option ℤ) (area inner : List Interval) → CanLook p cutoff area
+pub few_columns : (p : Instance) (cutoff : Option ℤ) (area inner : List Interval) → CanEvaluate p cutoff area
     → IsTightened p cutoff area (Kept inner) → length inner ≤ 10 ^ 4
 few_columns p cutoff area inner r t =
     omega (arith, t.below.width, r.below.width, length-map p.columns bounds_of, r.problem.counts.columns)

@@ -11,10 +11,10 @@ use Rattle.ug_problem.specs.Feasible.{Feasible}
 use Rattle.ug_problem.specs.Limits.{IsProblem}
 use Rattle.ug_problem.proofs.Cutoffs.{cutoff_small, good_is_less}
 use Rattle.ug_propagate.specs.Working.{WorkState}
-use Rattle.ug_base.specs.declared.halving.Halving.{Halving}
-use Rattle.ug_base.specs.declared.part.Part.{Part}
+use Rattle.ug_base.specs.declared.branching.Branching.{Branching}
+use Rattle.ug_base.specs.declared.open_box.OpenBox.{OpenBox}
 use Rattle.ug_base.specs.Chains.{HasSplit, area_of, areas_of}
-use Rattle.ug_base.specs.Halvings.{first_half, other_half}
+use Rattle.ug_base.specs.Branchings.{first_half, other_half}
 use Rattle.ug_base.proofs.Chains.{areas_behind, areas_front}
 use Rattle.ug_problem.specs.Better.{HasNoGood, IsGap, IsGood, cutoff_of}
 use Rattle.ug_rows.proofs.AreaLemmas.{below_trans}
@@ -22,7 +22,7 @@ use Rattle.ug_base.specs.Steps.{IsFound, IsPruned, IsSplit, Leaves, LeavesNone}
 use Rattle.ug_base.proofs.Through.{IsPointLeft}
 use Rattle.ug_base.specs.Points.{measure_of, weight_of}
 use Rattle.ug_base.specs.Tasks.{AreBelow, IsTask, TaskState}
-use Rattle.ug_base.specs.Looks.{AreGoodHalves, CanLook, Halves, IsBranched, IsOnlyGood, IsSeenBranched, halves_at}
+use Rattle.ug_base.specs.Evaluations.{AreGoodHalves, CanEvaluate, Halves, IsBranched, IsOnlyGood, IsSeenBranched, halves_at}
 use Rattle.ug_base.specs.Fronts.{front_of}
 use Rattle.ug_base.proofs.LastBox.{all_last, in_one_behind, in_one_front, in_one_split}
 use Rattle.ug_base.proofs.Measures.{measure_push, measure_push_two}
@@ -33,7 +33,7 @@ last_below t last task e = all_last (λ (area : List Interval). IsBelow area t.w
     (subst (AreBelow t.whole) e task.below)
 
 -- and so a box of the problem
-pub last_ready : (t : TaskState) (last : List Interval) → IsTask t → t.boxes ≡ front_of t.boxes ++ last ∷ [] → CanLook t.problem t.cutoff last
+pub last_ready : (t : TaskState) (last : List Interval) → IsTask t → t.boxes ≡ front_of t.boxes ++ last ∷ [] → CanEvaluate t.problem t.cutoff last
 last_ready t last task e = record {
   problem = task.problem;
   below = below_trans _ _ _ (last_below t last task e) task.whole;
@@ -134,20 +134,20 @@ split_task t last halves task e seen =
     }
 
 -- the last of a task's boxes, seen in its fields
-pub last_of_fields : (t : TaskState) (work : WorkState) (old : List Part) (last : Part) → t.boxes ≡ areas_of work old
+pub last_of_fields : (t : TaskState) (work : WorkState) (old : List OpenBox) (last : OpenBox) → t.boxes ≡ areas_of work old
     → old ≡ front_of old ++ last ∷ [] → t.boxes ≡ front_of t.boxes ++ area_of work last ∷ []
 last_of_fields t work old last same e =
     same ∙ areas_behind work old old (last ∷ []) e ∙ ap (λ bs. front_of bs ++ area_of work last ∷ []) (sym same)
 
 -- the boxes but the last, where the working box continued
-front_of_fields : (t : TaskState) (before after : WorkState) (old new : List Part) → t.boxes ≡ areas_of before old
+front_of_fields : (t : TaskState) (before after : WorkState) (old new : List OpenBox) → t.boxes ≡ areas_of before old
     → areas_of after old ≡ areas_of before old → new ≡ front_of old → areas_of after new ≡ front_of t.boxes
 front_of_fields t before after old new same kept e =
     ap (areas_of after) e ∙ areas_front after old
     ∙ ap (λ (bs : List (List Interval)). front_of bs) (kept ∙ sym same)
 
 -- the same of the fields of a task, after a look at the last box
-pub after_hopeless : (t : TaskState) (before after : WorkState) (old new : List Part) (last : Part) → t.boxes ≡ areas_of before old
+pub after_hopeless : (t : TaskState) (before after : WorkState) (old new : List OpenBox) (last : OpenBox) → t.boxes ≡ areas_of before old
     → IsTask t → old ≡ front_of old ++ last ∷ [] → areas_of after old ≡ areas_of before old
     → HasNoGood t.problem t.cutoff (area_of before last) → new ≡ front_of old
     → IsTask (record t { boxes = areas_of after new })
@@ -155,7 +155,7 @@ after_hopeless t before after old new last same task e kept s dropped =
     subst (λ bs. IsTask (record t { boxes = bs })) (sym (front_of_fields t before after old new same kept dropped))
     (pruned_task t (area_of before last) task (last_of_fields t before old last same e) s)
 
-pub after_solved : (t : TaskState) (before after : WorkState) (old new : List Part) (last : Part) (x : List ℤ) (cutoff : Option ℤ)
+pub after_solved : (t : TaskState) (before after : WorkState) (old new : List OpenBox) (last : OpenBox) (x : List ℤ) (cutoff : Option ℤ)
     → t.boxes ≡ areas_of before old → IsTask t → old ≡ front_of old ++ last ∷ [] → areas_of after old ≡ areas_of before old
     → IsOnlyGood t.problem t.cutoff (area_of before last) x → new ≡ front_of old → cutoff ≡ Some (cutoff_of t.problem t.gap x)
     → IsTask (record t { boxes = areas_of after new; cutoff = cutoff })
@@ -165,27 +165,27 @@ after_solved t before after old new last x cutoff same task e kept s dropped val
     (found_task t (area_of before last) x task (last_of_fields t before old last same e) s))
 
 -- the boxes after the last was branched on
-split_boxes : (t : TaskState) (s : Instance) (before after : WorkState) (old new : List Part) (halving : Halving) → t.boxes ≡ areas_of before old
-    → areas_of after old ≡ areas_of before old → (h : HasSplit s t.whole after halving.first halving.branch old new)
-    → areas_of after new ≡ front_of t.boxes ++ other_half halving.first after.sums.area halving.branch ∷ first_half halving.first after.sums.area halving.branch ∷ []
-split_boxes t s before after old new halving same kept h =
+split_boxes : (t : TaskState) (s : Instance) (before after : WorkState) (old new : List OpenBox) (branching : Branching) → t.boxes ≡ areas_of before old
+    → areas_of after old ≡ areas_of before old → (h : HasSplit s t.whole after branching.first branching.branch old new)
+    → areas_of after new ≡ front_of t.boxes ++ other_half branching.first after.sums.area branching.branch ∷ first_half branching.first after.sums.area branching.branch ∷ []
+split_boxes t s before after old new branching same kept h =
     areas_behind after new old (h.second ∷ h.first ∷ []) h.put
     ∙ ap (λ bs. front_of bs ++ area_of after h.second ∷ area_of after h.first ∷ []) (kept ∙ sym same)
     ∙ ap (λ (a : List Interval). front_of t.boxes ++ a ∷ area_of after h.first ∷ []) h.area_second
-    ∙ ap (λ (a : List Interval). front_of t.boxes ++ other_half halving.first after.sums.area halving.branch ∷ a ∷ []) h.area_first
+    ∙ ap (λ (a : List Interval). front_of t.boxes ++ other_half branching.first after.sums.area branching.branch ∷ a ∷ []) h.area_first
 
-pub after_halved : (t : TaskState) (s : Instance) (before after : WorkState) (old new : List Part) (last : Part) (halving : Halving)
+pub after_halved : (t : TaskState) (s : Instance) (before after : WorkState) (old new : List OpenBox) (last : OpenBox) (branching : Branching)
     → t.boxes ≡ areas_of before old → IsTask t → old ≡ front_of old ++ last ∷ [] → areas_of after old ≡ areas_of before old
-    → AreGoodHalves t.problem t.cutoff (area_of before last) (halves_at halving.first after.sums.area halving.branch)
-    → HasSplit s t.whole after halving.first halving.branch old new
+    → AreGoodHalves t.problem t.cutoff (area_of before last) (halves_at branching.first after.sums.area branching.branch)
+    → HasSplit s t.whole after branching.first branching.branch old new
     → IsTask (record t { boxes = areas_of after new })
-after_halved t s before after old new last halving same task e kept good h =
-    subst (λ bs. IsTask (record t { boxes = bs })) (sym (split_boxes t s before after old new halving same kept h))
-    (split_task t (area_of before last) (halves_at halving.first after.sums.area halving.branch) task
+after_halved t s before after old new last branching same task e kept good h =
+    subst (λ bs. IsTask (record t { boxes = bs })) (sym (split_boxes t s before after old new branching same kept h))
+    (split_task t (area_of before last) (halves_at branching.first after.sums.area branching.branch) task
     (last_of_fields t before old last same e) good)
 
 -- what a step that pruned the last box did
-pub pruned_step : (t : TaskState) (before after : WorkState) (old new : List Part) (last : Part) → t.boxes ≡ areas_of before old
+pub pruned_step : (t : TaskState) (before after : WorkState) (old new : List OpenBox) (last : OpenBox) → t.boxes ≡ areas_of before old
     → old ≡ front_of old ++ last ∷ [] → areas_of after old ≡ areas_of before old
     → LeavesNone t.params.base t.problem t.cutoff (area_of before last) → new ≡ front_of old
     → IsPruned t (record t { boxes = areas_of after new })
@@ -199,7 +199,7 @@ pruned_step t before after old new last same e kept none dropped =
     }
 
 -- what a step that found a point did
-pub found_step : (t : TaskState) (before after : WorkState) (old new : List Part) (last : Part) (x : List ℤ) (cutoff : Option ℤ)
+pub found_step : (t : TaskState) (before after : WorkState) (old new : List OpenBox) (last : OpenBox) (x : List ℤ) (cutoff : Option ℤ)
     → t.boxes ≡ areas_of before old → old ≡ front_of old ++ last ∷ [] → areas_of after old ≡ areas_of before old
     → IsPointLeft t.params.base t.problem t.cutoff (area_of before last) x → new ≡ front_of old → cutoff ≡ Some (cutoff_of t.problem t.gap x)
     → IsFound t (record t { boxes = areas_of after new; cutoff = cutoff }) x
@@ -217,21 +217,21 @@ found_step t before after old new last x cutoff same e kept solved dropped value
     }
 
 -- what a step that branched on the last box did
-pub split_step : (t : TaskState) (s : Instance) (before after : WorkState) (old new : List Part) (last : Part) (halving : Halving)
+pub split_step : (t : TaskState) (s : Instance) (before after : WorkState) (old new : List OpenBox) (last : OpenBox) (branching : Branching)
     → t.boxes ≡ areas_of before old → old ≡ front_of old ++ last ∷ [] → areas_of after old ≡ areas_of before old
-    → Leaves t.params.base t.problem t.cutoff (area_of before last) after.sums.area → IsBranched t.params after.sums.area halving
-    → HasSplit s t.whole after halving.first halving.branch old new
+    → Leaves t.params.base t.problem t.cutoff (area_of before last) after.sums.area → IsBranched t.params after.sums.area branching
+    → HasSplit s t.whole after branching.first branching.branch old new
     → IsSplit t (record t { boxes = areas_of after new })
-split_step t s before after old new last halving same e kept left branched h = record {
+split_step t s before after old new last branching same e kept left branched h = record {
   before = front_of t.boxes;
   last = area_of before last;
   boxes = last_of_fields t before old last same e;
   inner = after.sums.area;
   left = left;
   some = branched.some;
-  halving = halving;
+  branching = branching;
   may = branched.may;
-  same = ap (λ bs. record t { boxes = bs }) (split_boxes t s before after old new halving same kept h);
+  same = ap (λ bs. record t { boxes = bs }) (split_boxes t s before after old new branching same kept h);
 }
 
 dropped_less : (boxes : List (List Interval)) (last : List Interval) → boxes ≡ front_of boxes ++ last ∷ []
@@ -245,7 +245,7 @@ halved_less boxes last first second e h =
     omega (arith, m, measure_push (front_of boxes) last, measure_push_two (front_of boxes) second first, h)
 
 -- a box dropped leaves less
-pub left_dropped_less : (t : TaskState) (before after : WorkState) (old new : List Part) (last : Part) → t.boxes ≡ areas_of before old
+pub left_dropped_less : (t : TaskState) (before after : WorkState) (old new : List OpenBox) (last : OpenBox) → t.boxes ≡ areas_of before old
     → old ≡ front_of old ++ last ∷ [] → areas_of after old ≡ areas_of before old → new ≡ front_of old
     → measure_of (areas_of after new) < measure_of t.boxes
 left_dropped_less t before after old new last same e kept dropped =
@@ -253,26 +253,26 @@ left_dropped_less t before after old new last same e kept dropped =
     (dropped_less t.boxes (area_of before last) (last_of_fields t before old last same e))
 
 -- and one branched on
-pub left_halved_less : (t : TaskState) (s : Instance) (before after : WorkState) (old new : List Part) (last : Part) (halving : Halving)
+pub left_halved_less : (t : TaskState) (s : Instance) (before after : WorkState) (old new : List OpenBox) (last : OpenBox) (branching : Branching)
     → t.boxes ≡ areas_of before old → old ≡ front_of old ++ last ∷ [] → areas_of after old ≡ areas_of before old
-    → IsSeenBranched s t.cutoff t.params (area_of before last) after halving
-    → HasSplit s t.whole after halving.first halving.branch old new
+    → IsSeenBranched s t.cutoff t.params (area_of before last) after branching
+    → HasSplit s t.whole after branching.first branching.branch old new
     → measure_of (areas_of after new) < measure_of t.boxes
-left_halved_less t s before after old new last halving same e kept seen h =
-    subst (λ bs. measure_of bs < measure_of t.boxes) (sym (split_boxes t s before after old new halving same kept h))
-    (halved_less t.boxes (area_of before last) (first_half halving.first after.sums.area halving.branch)
-    (other_half halving.first after.sums.area halving.branch) (last_of_fields t before old last same e) seen.halved.less)
+left_halved_less t s before after old new last branching same e kept seen h =
+    subst (λ bs. measure_of bs < measure_of t.boxes) (sym (split_boxes t s before after old new branching same kept h))
+    (halved_less t.boxes (area_of before last) (first_half branching.first after.sums.area branching.branch)
+    (other_half branching.first after.sums.area branching.branch) (last_of_fields t before old last same e) seen.halved.less)
 
 -- if there is a last box, there are boxes
-pub some_left : (t : TaskState) (work : WorkState) (old : List Part) (last : Part) → t.boxes ≡ areas_of work old
+pub some_left : (t : TaskState) (work : WorkState) (old : List OpenBox) (last : OpenBox) → t.boxes ≡ areas_of work old
     → old ≡ front_of old ++ last ∷ [] → t.boxes ≡ [] → ⊥
 some_left t work old last same e none =
     let n = ap (λ (bs : List (List Interval)). length bs) (sym none ∙ last_of_fields t work old last same e) in
     absurd (omega (arith, n, length-append (front_of t.boxes) (area_of work last ∷ [])))
 
 -- the rest of the last box is below the whole one
-pub left_below : (t : TaskState) (s : Instance) (before after : WorkState) (old : List Part) (last : Part) (halving : Halving)
+pub left_below : (t : TaskState) (s : Instance) (before after : WorkState) (old : List OpenBox) (last : OpenBox) (branching : Branching)
     → t.boxes ≡ areas_of before old → IsTask t → old ≡ front_of old ++ last ∷ []
-    → IsSeenBranched s t.cutoff t.params (area_of before last) after halving → IsBelow after.sums.area t.whole
-left_below t s before after old last halving same task e seen =
+    → IsSeenBranched s t.cutoff t.params (area_of before last) after branching → IsBelow after.sums.area t.whole
+left_below t s before after old last branching same task e seen =
     below_trans _ _ _ seen.below (last_below t (area_of before last) task (last_of_fields t before old last same e))

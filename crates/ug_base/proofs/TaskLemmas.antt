@@ -16,17 +16,17 @@ use Rattle.ug_rows.specs.Sums.{box_floor}
 use Rattle.ug_propagate.specs.declared.fixpoint.Fixpoint.TheVariants.{Unknown}
 use Rattle.ug_propagate.specs.declared.working.Trailed.{Trailed}
 use Rattle.ug_propagate.specs.Working.{AreTrailed, AreMaxSpans, IsBox, WorkState, undone}
-use Rattle.ug_base.specs.declared.part.Part.{Part}
-use Rattle.ug_base.specs.Chains.{IsChain, IsPart, areas_of, base_of}
+use Rattle.ug_base.specs.declared.open_box.OpenBox.{OpenBox}
+use Rattle.ug_base.specs.Chains.{IsChain, IsOpenBox, areas_of, base_of}
 use Rattle.ug_base.specs.Tasks.{AreBelow, IsTask, TaskState, lesser_of}
 use Rattle.ug_base.proofs.Floors.{lesser_is}
 
 -- a task with the whole box left and none handed
-pub new_task : (t : TaskState) (work : WorkState) (parts : List Part) (gap floor : ℤ) → IsProblem t.problem
+pub new_task : (t : TaskState) (work : WorkState) (open_boxes : List OpenBox) (gap floor : ℤ) → IsProblem t.problem
     → IsBelow t.whole (root_of t.problem) → IsSmallCutoff t.cutoff → IsGap gap → t.gap ≡ gap
-    → parts ≡ record { depth = 0; cut = None; floor = floor; fixpoint = Unknown; closed = 0 } ∷ [] → work.trail ≡ [] → work.sums.area ≡ t.whole
-    → t.boxes ≡ areas_of work parts → t.handed ≡ [] → IsTask t
-new_task t work parts gap floor problem below small g same e none area left handed =
+    → open_boxes ≡ record { depth = 0; cut = None; floor = floor; fixpoint = Unknown; closed = 0 } ∷ [] → work.trail ≡ [] → work.sums.area ≡ t.whole
+    → t.boxes ≡ areas_of work open_boxes → t.handed ≡ [] → IsTask t
+new_task t work open_boxes gap floor problem below small g same e none area left handed =
     let P : List Interval → Type 0 = λ (a : List Interval). IsBelow a t.whole in
     let one : t.boxes ≡ t.whole ∷ [] = left ∙ ap (areas_of work) e
     ∙ ap (λ (trail : List Trailed). undone work.sums.area (drop 0 trail) ∷ []) none ∙ ap (λ (a : List Interval). a ∷ []) area in
@@ -41,15 +41,15 @@ new_task t work parts gap floor problem below small g same e none area left hand
     }
 
 -- and its one part
-pub new_chain : (p : Instance) (whole : List Interval) (work : WorkState) (parts : List Part)
-    → parts ≡ record { depth = 0; cut = None; floor = box_floor p.objective work.sums.area; fixpoint = Unknown; closed = 0 } ∷ []
-    → IsBox p work → work.trail ≡ [] → work.sums.area ≡ whole → IsChain p whole work parts
-new_chain p whole work parts e box none area =
-    let only : Part = record { depth = 0; cut = None; floor = box_floor p.objective work.sums.area; fixpoint = Unknown; closed = 0 } in
+pub new_chain : (p : Instance) (whole : List Interval) (work : WorkState) (open_boxes : List OpenBox)
+    → open_boxes ≡ record { depth = 0; cut = None; floor = box_floor p.objective work.sums.area; fixpoint = Unknown; closed = 0 } ∷ []
+    → IsBox p work → work.trail ≡ [] → work.sums.area ≡ whole → IsChain p whole work open_boxes
+new_chain p whole work open_boxes e box none area =
+    let only : OpenBox = record { depth = 0; cut = None; floor = box_floor p.objective work.sums.area; fixpoint = Unknown; closed = 0 } in
     let C : Trailed → Type 0 = λ (change : Trailed). change.column < length p.columns in
     let base : base_of work only ≡ work.sums.area =
     ap (λ (trail : List Trailed). undone work.sums.area (drop 0 trail)) none in
-    let is : IsPart p whole work only = record {
+    let is : IsOpenBox p whole work only = record {
       deep = omega arith;
       below = subst (λ (a : List Interval). IsBelow a whole) (sym (base ∙ area)) (below_itself whole);
       cut = tt;
@@ -57,14 +57,14 @@ new_chain p whole work parts e box none area =
       floor = ap (λ (a : List Interval). box_floor p.objective a) (sym base);
       closed = λ j less. absurd (omega arith);
     } in
-    subst (λ (ps : List Part). IsChain p whole work ps) (sym e) (record {
+    subst (λ (ps : List OpenBox). IsChain p whole work ps) (sym e) (record {
       base = record {
         box = box;
         trail = subst (λ (trail : List Trailed). AreTrailed (length p.columns) trail) (sym none) (All-nil C);
         max_span = subst (λ (a : List Interval). AreMaxSpans p a work.max_span) area box.max_span;
       };
-      each = All-cons (IsPart p whole work) only [] is (All-nil (IsPart p whole work));
-      rising = (All-nil (λ (later : Part). 0 ≤ later.depth), tt);
+      each = All-cons (IsOpenBox p whole work) only [] is (All-nil (IsOpenBox p whole work));
+      rising = (All-nil (λ (later : OpenBox). 0 ≤ later.depth), tt);
     })
 
 -- a value below the smaller of two is below the first
@@ -98,9 +98,9 @@ lowered_task t given cutoff task h e =
     })
 
 -- a task whose boxes are the same in another working box
-pub same_task : (t : TaskState) (before after : WorkState) (parts : List Part) → t.boxes ≡ areas_of before parts
-    → areas_of after parts ≡ areas_of before parts → IsTask t → IsTask (record t { boxes = areas_of after parts })
-same_task t before after parts same e task =
+pub same_task : (t : TaskState) (before after : WorkState) (open_boxes : List OpenBox) → t.boxes ≡ areas_of before open_boxes
+    → areas_of after open_boxes ≡ areas_of before open_boxes → IsTask t → IsTask (record t { boxes = areas_of after open_boxes })
+same_task t before after open_boxes same e task =
     subst (λ (bs : List (List Interval)). IsTask (record t { boxes = bs })) (same ∙ sym e) task
 
 -- the searched formulation stays one below the cutoff of a point that is found

@@ -13,7 +13,7 @@ use Rattle.ug_propagate.specs.declared.tight.Tight.TheVariants.{Kept}
 use Rattle.ug_propagate.specs.Rounds.{rounds}
 use Rattle.ug_surrogate.specs.Stronger.{Follows}
 use Rattle.ug_base.specs.Formulations.{Searches}
-use Rattle.ug_base.specs.Looks.{AreGoodHalves, Halves, IsOnlyGood, IsSeenHopeless, IsSeenSolved, KeepsGood}
+use Rattle.ug_base.specs.Evaluations.{AreGoodHalves, Halves, IsOnlyGood, IsSeenHopeless, IsSeenSolved, KeepsGood}
 use Rattle.ug_base.specs.Steps.{IsHopeless, Leaves, LeavesNone}
 
 -- a problem follows from itself

@@ -1,14 +1,14 @@
 -- The least of the floors of boxes.
 use Rattle.std.specs.Prelude.{◌≡◌, ℕ, ℤ, pos, ◌<◌, ◌≤ℤ◌, List, [], ◌∷◌, map, slice_index_or, Option}
 use Rattle.std.specs.Prelude.{Some, None}
-use Rattle.ug_base.specs.declared.part.Part.{Part}
-use Rattle.ug_base.specs.declared.parts.Kept.{Kept}
+use Rattle.ug_base.specs.declared.open_box.OpenBox.{OpenBox}
+use Rattle.ug_base.specs.declared.open_boxes.Kept.{Kept}
 use Rattle.ug_base.specs.Chains.{unsettled}
 use Rattle.ug_base.specs.Tasks.{lesser_of}
 
 -- the floors that are kept beside the boxes
-abbrev pub floors_of : List Part → List ℤ
-floors_of parts = map (λ (part : Part). part.floor) parts
+abbrev pub floors_of : List OpenBox → List ℤ
+floors_of open_boxes = map (λ (open_box : OpenBox). open_box.floor) open_boxes
 
 -- number k
 abbrev pub floor_at : List ℤ → ℕ → ℤ
@@ -27,25 +27,25 @@ IsLeastSoFar floors n None = n ≡ 0
 IsLeastSoFar floors n (Some low) = IsLeastOf floors n low
 
 -- the parts that are kept, without the least beside them
-abbrev pub parts_in : List Kept → List Part
-parts_in kept = map (λ (one : Kept). one.part) kept
+abbrev pub open_boxes_in : List Kept → List OpenBox
+open_boxes_in kept = map (λ (one : Kept). one.open_box) kept
 
 -- the part, and beside it the smaller of a floor, if there is one, and its own
-abbrev pub with_least : Option ℤ → Part → Kept
-with_least before part = record { part = part; least = lesser_of before part.floor }
+abbrev pub with_least : Option ℤ → OpenBox → Kept
+with_least before open_box = record { open_box = open_box; least = lesser_of before open_box.floor }
 
 -- the parts, and beside each the smaller of the least before it, if there is one, and its own floor
-abbrev pub renewed : Option ℤ → List Part → List Kept
+abbrev pub renewed : Option ℤ → List OpenBox → List Kept
 renewed before [] = []
-renewed before (part ∷ parts) =
-    with_least before part ∷ renewed (Some (lesser_of before part.floor)) parts
+renewed before (open_box ∷ open_boxes) =
+    with_least before open_box ∷ renewed (Some (lesser_of before open_box.floor)) open_boxes
 
 -- the least beside each part is the smaller of the least before it, if there is one, and its own
 -- floor
 abbrev pub AreLeasts : Option ℤ → List Kept → Type 0
 AreLeasts before [] = Unit {0}
 AreLeasts before (one ∷ kept) =
-    (one.least ≡ lesser_of before one.part.floor) × AreLeasts (Some one.least) kept
+    (one.least ≡ lesser_of before one.open_box.floor) × AreLeasts (Some one.least) kept
 
 -- the least beside the last part, or what was before the first
 abbrev pub least_of : Option ℤ → List Kept → Option ℤ
@@ -54,4 +54,4 @@ least_of before (one ∷ kept) = least_of (Some one.least) kept
 
 -- the part, of which it is not known how its parent's rows rested, with the least beside it
 abbrev pub unsettled_kept : Kept → Kept
-unsettled_kept one = record one { part = unsettled one.part }
+unsettled_kept one = record one { open_box = unsettled one.open_box }

@@ -3,18 +3,18 @@
 use Rattle.std.specs.Prelude.{◌≡◌, ◌<◌, ◌≤◌, List, [], ◌∷◌, ◌++◌, length, Option, Some, None}
 use Rattle.ug_rows.specs.declared.area.Interval.{Interval}
 use Rattle.ug_base.specs.declared.handed.Handed.{Handed}
-use Rattle.ug_base.specs.declared.part.Part.{Part}
+use Rattle.ug_base.specs.declared.open_box.OpenBox.{OpenBox}
 use Rattle.ug_propagate.specs.Working.{WorkState}
 use Rattle.ug_base.specs.Chains.{areas_of}
 use Rattle.ug_base.specs.Points.{measure_of}
 use Rattle.ug_base.specs.Tasks.{TaskState}
 
 -- the box of the first part is moved behind those handed, and the other parts are left
-pub record IsMoved (work : WorkState) (old new : List Part)
+pub record IsMoved (work : WorkState) (old new : List OpenBox)
     (handed_old handed_new : List (List Interval)) (area : List Interval) : Type 0 where
-  pub part : Part
-  pub rest : List Part
-  pub first : old ≡ part ∷ rest
+  pub open_box : OpenBox
+  pub rest : List OpenBox
+  pub first : old ≡ open_box ∷ rest
   pub left : new ≡ rest
   pub boxes : areas_of work old ≡ area ∷ areas_of work new
   pub last : handed_new ≡ handed_old ++ area ∷ []

@@ -1,12 +1,12 @@
 pub mod Covers
 pub mod Points
 pub mod Fronts
-pub mod Halvings
+pub mod Branchings
 pub mod Chains
 pub mod Floors
 pub mod Tasks
 pub mod Views
 pub mod Steps
 pub mod Hands
-pub mod Looks
+pub mod Evaluations
 pub mod Formulations

@@ -12,8 +12,8 @@ use Rattle.ug_problem.specs.Better.{AreAllHanded, HasNoGood, IsGood, cutoff_of}
 use Rattle.ug_propagate.specs.Rounds.{rounds}
 use Rattle.ug_base.specs.declared.step.Step.{Step}
 use Rattle.ug_base.specs.declared.step.Step.TheVariants.{Pruned, Found, Split, Empty}
-use Rattle.ug_base.specs.declared.halving.Halving.{Halving}
-use Rattle.ug_base.specs.Halvings.{MayHalve, first_half, other_half}
+use Rattle.ug_base.specs.declared.branching.Branching.{Branching}
+use Rattle.ug_base.specs.Branchings.{MayBranch, first_half, other_half}
 use Rattle.ug_base.specs.Points.{measure_of}
 use Rattle.ug_base.specs.Tasks.{TaskState}
 
@@ -66,11 +66,11 @@ pub record IsSplit (old new : TaskState) : Type 0 where
   pub inner : List Interval
   pub left : Leaves old.params.base old.problem old.cutoff last inner
   pub some : IsNonEmpty inner
-  pub halving : Halving
-  pub may : MayHalve old.params.base old.params inner halving
+  pub branching : Branching
+  pub may : MayBranch old.params.base old.params inner branching
   pub same : new ≡ record old {
-    boxes = before ++ other_half halving.first inner halving.branch
-        ∷ first_half halving.first inner halving.branch ∷ [];
+    boxes = before ++ other_half branching.first inner branching.branch
+        ∷ first_half branching.first inner branching.branch ∷ [];
   }
 
 -- no box was left, so each good point of the whole box lies in a box handed, and none is good where

@@ -9,17 +9,17 @@ abbrev pub state_of : Inside → TaskState
 state_of t = record {
   problem = t.formulation.problem;
   ticket = t.ticket;
-  params = t.guide;
+  params = t.scores;
   whole = t.whole;
   cutoff = t.cutoff;
   gap = t.gap;
-  boxes = areas_of t.work t.parts;
+  boxes = areas_of t.work t.open_boxes;
   handed = t.handed;
 }
 
 -- the fields are those of a task, whose boxes are parts of its working box over what is searched
 pub record AreOfTask (t : Inside) : Type 0 where
   pub task : IsTask (state_of t)
-  pub chain : IsChain t.formulation.searched t.whole t.work t.parts
-  pub searched : Searches t.guide.base t.formulation.problem t.whole t.cutoff
+  pub chain : IsChain t.formulation.searched t.whole t.work t.open_boxes
+  pub searched : Searches t.scores.base t.formulation.problem t.whole t.cutoff
       t.formulation.searched

@@ -9,7 +9,7 @@ use ug_propagate::Reason;
 use ug_rows::{Interval, Row};
 
 // How much the first conflict adds to a weight.
-const FIRST: u64 = 1 << 20;
+const FIRST_AMOUNT: u64 = 1 << 20;
 
 // Each conflict adds more than the one before, by this part of it.
 const GROWTH: u64 = 50;
@@ -54,7 +54,7 @@ impl Conflicts {
     pub fn new(alloc: Global) -> Conflicts {
         Conflicts {
             weights: Vec::new(alloc),
-            amount: FIRST,
+            amount: FIRST_AMOUNT,
         }
     }
 

@@ -7,18 +7,18 @@
 //! to search.
 #![tactic(auto)]
 
+mod branching;
 mod conflicts;
+mod evaluation;
 mod formulation;
-mod guide;
-mod halving;
 mod handed;
 mod lesser;
-mod look;
 mod lows;
 mod moving;
-mod part;
-mod parts;
-mod sharpening;
+mod open_box;
+mod open_boxes;
+mod schedule;
+mod scores;
 mod split;
 mod step;
 mod task;

@@ -1,5 +1,5 @@
 ghost use Rattle.std.specs.Prelude.{◌≡◌, IfOk};
-ghost use Rattle.ug_base.specs.Looks.{lows_of};
+ghost use Rattle.ug_base.specs.Evaluations.{lows_of};
 
 use std::alloc::{AllocError, Global};
 use ug_rows::{Interval, Point};

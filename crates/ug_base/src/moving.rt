@@ -3,8 +3,8 @@ ghost use Rattle.ug_propagate.specs.Working.{undone};
 ghost use Rattle.ug_base.specs.Chains.{area_of, narrowed};
 ghost use Rattle.ug_base.specs.Hands.{IsMoved};
 
-use crate::part::{Narrowing, Part};
-use crate::parts::Parts;
+use crate::open_box::{Narrowing, OpenBox};
+use crate::open_boxes::OpenBoxes;
 use std::alloc::{AllocError, Global};
 use ug_nodes::Hands;
 use ug_propagate::{Trailed, Working};
@@ -36,13 +36,13 @@ fn narrow(sides: &mut [Interval], cut: Option<Narrowing>)
 }
 
 /// The box of a part.
-pub fn box_of(alloc: Global, work: &Working, part: Part) -> Result<IntBox, AllocError>
-    requires { part.depth ≤ length work.now.trail }
-    ensures { IfOk result (λ area. area ≡ area_of work.now part) }
+pub fn box_of(alloc: Global, work: &Working, open_box: OpenBox) -> Result<IntBox, AllocError>
+    requires { open_box.depth ≤ length work.now.trail }
+    ensures { IfOk result (λ area. area ≡ area_of work.now open_box) }
 {
     let mut sides = Vec::from_slice(alloc, work.sides())?;
-    undo(sides.as_mut_slice(), &work.trail()[part.depth..]);
-    narrow(sides.as_mut_slice(), part.cut);
+    undo(sides.as_mut_slice(), &work.trail()[open_box.depth..]);
+    narrow(sides.as_mut_slice(), open_box.cut);
     Ok(IntBox::from_vec(sides))
 }
 
@@ -51,21 +51,22 @@ pub fn box_of(alloc: Global, work: &Working, part: Part) -> Result<IntBox, Alloc
 pub fn move_first(
     alloc: Global,
     work: &Working,
-    first: Part,
-    parts: &mut Parts,
+    first: OpenBox,
+    open_boxes: &mut OpenBoxes,
     handed: &mut Hands,
 ) -> Result<IntBox, AllocError>
-    requires first { parts.old ≡ first ∷ drop 1 parts.old }
+    requires first { open_boxes.old ≡ first ∷ drop 1 open_boxes.old }
     requires deep { first.depth ≤ length work.now.trail }
-    ensures ok { IfOk result (IsMoved work.now parts.old parts.new handed.old handed.new) }
-    ensures parts { OnErr result (parts.new ≡ parts.old) }
+    ensures ok { IfOk result
+        (IsMoved work.now open_boxes.old open_boxes.new handed.old handed.new) }
+    ensures open_boxes { OnErr result (open_boxes.new ≡ open_boxes.old) }
     ensures handed { OnErr result (handed.new ≡ handed.old) }
 {
     // All memory is taken before the part is dropped.
     let area = box_of(alloc, work, first)?;
     match handed.push(&area) {
         Ok(()) => {
-            parts.drop_first();
+            open_boxes.drop_first();
             Ok(area)
         }
         Err(error) => {

@@ -2,14 +2,14 @@ ghost use Rattle.std.specs.Prelude.{◌≡◌, ◌<◌, ◌<ℤ◌, ◌+ℤ◌, 
 ghost use Rattle.ug_rows.specs.Boxes.{IsBelow, IsClosedWithin, IsNonEmpty, interval_at};
 ghost use Rattle.ug_propagate.specs.Working.{AllAtFixpoint, IsWorking};
 ghost use Rattle.ug_branch.specs.Choices.{AreClosed};
-ghost use Rattle.ug_base.specs.Chains.{HasSplit, IsBase, IsChain, IsPart, area_of, closed_of, first_side, other_side};
-ghost use Rattle.ug_base.specs.Looks.{IsBranched};
+ghost use Rattle.ug_base.specs.Chains.{HasSplit, IsBase, IsChain, IsOpenBox, area_of, closed_of, first_side, other_side};
+ghost use Rattle.ug_base.specs.Evaluations.{IsBranched};
 
+use crate::branching::Branching;
 use crate::formulation::Formulation;
-use crate::guide::Guide;
-use crate::halving::Halving;
-use crate::part::{Narrowing, Part};
-use crate::parts::Parts;
+use crate::open_box::{Narrowing, OpenBox};
+use crate::open_boxes::OpenBoxes;
+use crate::scores::BranchScores;
 use std::alloc::AllocError;
 use ug_branch::Half;
 use ug_problem::Problem;
@@ -76,17 +76,17 @@ struct Sides {
 }
 
 // Returns the branches of the range of the branching variable.
-fn sides_at(work: &Working, guide: &Guide, halving: Halving) -> Sides
-    requires { IsBranched guide.now work.now.sums.area halving }
-    ensures first { result.first ≡ first_side halving.first
-        (interval_at work.now.sums.area halving.branch.column) halving.branch.middle }
-    ensures second { result.second ≡ other_side halving.first
-        (interval_at work.now.sums.area halving.branch.column) halving.branch.middle }
+fn sides_at(work: &Working, scores: &BranchScores, branching: Branching) -> Sides
+    requires { IsBranched scores.now work.now.sums.area branching }
+    ensures first { result.first ≡ first_side branching.first
+        (interval_at work.now.sums.area branching.branch.column) branching.branch.middle }
+    ensures second { result.second ≡ other_side branching.first
+        (interval_at work.now.sums.area branching.branch.column) branching.branch.middle }
 {
-    let side = work.sides()[halving.branch.column as usize];
+    let side = work.sides()[branching.branch.column as usize];
     Sides {
-        first: first_of(halving.first, side, halving.branch.middle),
-        second: other_of(halving.first, side, halving.branch.middle),
+        first: first_of(branching.first, side, branching.branch.middle),
+        second: other_of(branching.first, side, branching.branch.middle),
     }
 }
 
@@ -112,7 +112,7 @@ fn closed_from(sides: &[Interval], known: usize) -> usize
     known
 }
 
-fn part_of(depth: usize, column: u32, side: Interval, floor: i128, known: Known) -> Part
+fn open_box_of(depth: usize, column: u32, side: Interval, floor: i128, known: Known) -> OpenBox
     ensures { result ≡ record {
       depth = depth;
       cut = Some (record { column = column; side = side });
@@ -121,7 +121,7 @@ fn part_of(depth: usize, column: u32, side: Interval, floor: i128, known: Known)
       closed = known.closed;
     } }
 {
-    Part {
+    OpenBox {
         depth,
         cut: Some(Narrowing { column, side }),
         floor,
@@ -131,14 +131,14 @@ fn part_of(depth: usize, column: u32, side: Interval, floor: i128, known: Known)
 }
 
 // The working box with a column narrowed, as a part.
-fn part_with(
+fn open_box_with(
     work: &Working,
     problem: &Problem,
     whole: &IntBox,
     column: u32,
     side: Interval,
     known: Known,
-) -> Part
+) -> OpenBox
     requires there { column < length problem.now.columns }
     requires base { IsBase problem.now whole.now work.now }
     requires below { IsBelow work.now.sums.area whole.now }
@@ -146,12 +146,12 @@ fn part_with(
     requires some { IsNonEmpty work.now.sums.area }
     requires fixpoint { AllAtFixpoint problem.now known.fixpoint work.now.sums.area }
     requires closed { AreClosed known.closed work.now.sums.area }
-    ensures part { IsPart problem.now whole.now work.now result }
+    ensures open_box { IsOpenBox problem.now whole.now work.now result }
     ensures area { area_of work.now result ≡ slice_set work.now.sums.area column side }
     ensures depth { result.depth ≡ length work.now.trail }
 {
     let floor = work.floor_with(problem, column, side);
-    part_of(work.trail_len(), column, side, floor, known)
+    open_box_of(work.trail_len(), column, side, floor, known)
 }
 
 /// Puts both parts of the working box in the last part's place, the one that comes first on top.
@@ -160,30 +160,30 @@ pub fn split_last(
     work: &Working,
     formulation: &Formulation,
     whole: &IntBox,
-    guide: &Guide,
+    scores: &BranchScores,
     cutoff: Option<i128>,
-    halving: Halving,
-    parts: &mut Parts,
+    branching: Branching,
+    open_boxes: &mut OpenBoxes,
 ) -> Result<(), AllocError>
-    requires some { 0 < length parts.old }
-    requires chain { IsChain formulation.now.searched whole.now work.now parts.old }
+    requires some { 0 < length open_boxes.old }
+    requires chain { IsChain formulation.now.searched whole.now work.now open_boxes.old }
     requires below { IsBelow work.now.sums.area whole.now }
     requires working { IsWorking formulation.now.searched cutoff work.now }
-    requires branched { IsBranched guide.now work.now.sums.area halving }
-    requires closed { AreClosed (closed_of parts.old) work.now.sums.area }
-    ensures ok { OnOk result (HasSplit formulation.now.searched whole.now work.now halving.first
-        halving.branch parts.old parts.new) }
-    ensures err { OnErr result (parts.new ≡ parts.old) }
+    requires branched { IsBranched scores.now work.now.sums.area branching }
+    requires closed { AreClosed (closed_of open_boxes.old) work.now.sums.area }
+    ensures ok { OnOk result (HasSplit formulation.now.searched whole.now work.now branching.first
+        branching.branch open_boxes.old open_boxes.new) }
+    ensures err { OnErr result (open_boxes.new ≡ open_boxes.old) }
 {
     let problem = formulation.searched();
     let known = Known {
         fixpoint: fixpoint_after(work, problem, cutoff),
-        closed: closed_from(work.sides(), parts.closed_last()),
+        closed: closed_from(work.sides(), open_boxes.closed_last()),
     };
-    let sides = sides_at(work, guide, halving);
-    let column = halving.branch.column;
-    let first = part_with(work, problem, whole, column, sides.first, known);
-    let second = part_with(work, problem, whole, column, sides.second, known);
-    parts.replace_last(first, second)?;
+    let sides = sides_at(work, scores, branching);
+    let column = branching.branch.column;
+    let first = open_box_with(work, problem, whole, column, sides.first, known);
+    let second = open_box_with(work, problem, whole, column, sides.second, known);
+    open_boxes.replace_last(first, second)?;
     Ok(())
 }

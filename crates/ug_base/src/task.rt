@@ -15,15 +15,15 @@ ghost use Rattle.ug_base.specs.Tasks.{AreBelow, BoundsTheRest, IsLeastFloor, les
 ghost use Rattle.ug_problem.specs.Better.{AreAllHanded, HasNoGood, IsGap, IsSmallCutoff, cutoff_of};
 
 use crate::conflicts::Conflict;
+use crate::evaluation::{Seen, begin, evaluate_last};
 use crate::formulation::Formulation;
-use crate::guide::Guide;
 use crate::handed::Handed;
 use crate::lesser::lesser;
-use crate::look::{Seen, begin, look_last};
 use crate::moving::{box_of, move_first};
-use crate::part::{Narrowing, Part};
-use crate::parts::Parts;
-use crate::sharpening::Sharpening;
+use crate::open_box::{Narrowing, OpenBox};
+use crate::open_boxes::OpenBoxes;
+use crate::schedule::SurrogateSchedule;
+use crate::scores::BranchScores;
 use crate::split::split_last;
 use crate::step::Step;
 use std::alloc::{AllocError, Global};
@@ -40,14 +40,14 @@ pub struct Task {
     alloc: Global,
     formulation: Formulation,
     ticket: Ticket,
-    guide: Guide,
+    scores: BranchScores,
     whole: IntBox,
     cutoff: Option<i128>,
     gap: i128,
     work: Working,
-    parts: Parts,
+    open_boxes: OpenBoxes,
     handed: Hands,
-    sharpening: Sharpening,
+    schedule: SurrogateSchedule,
     // The last box that was emptied, until the guide has updated its weights by it.
     conflict: Option<Conflict>,
 }
@@ -65,7 +65,7 @@ impl Model for Task {
 }
 
 // Returns the whole box as the one box left.
-fn only_part(work: &Working, problem: &Problem) -> Part
+fn only_open_box(work: &Working, problem: &Problem) -> OpenBox
     requires { IsBox problem.now work.now }
     ensures { result ≡ record {
       depth = 0;
@@ -76,7 +76,7 @@ fn only_part(work: &Working, problem: &Problem) -> Part
     } }
 {
     let floor = work.floor(problem);
-    Part {
+    OpenBox {
         depth: 0,
         cut: None,
         floor,
@@ -86,9 +86,9 @@ fn only_part(work: &Working, problem: &Problem) -> Part
 }
 
 // Returns the boxes left of a new task: the whole box.
-fn only_left(alloc: Global, work: &Working, problem: &Problem) -> Result<Parts, AllocError>
+fn only_left(alloc: Global, work: &Working, problem: &Problem) -> Result<OpenBoxes, AllocError>
     requires { IsBox problem.now work.now }
-    ensures { IfOk result (λ parts. parts
+    ensures { IfOk result (λ open_boxes. open_boxes
         ≡ record {
           depth = 0;
           cut = None;
@@ -97,14 +97,14 @@ fn only_left(alloc: Global, work: &Working, problem: &Problem) -> Result<Parts, 
           closed = 0;
         } ∷ []) }
 {
-    Parts::of(alloc, only_part(work, problem))
+    OpenBoxes::of(alloc, only_open_box(work, problem))
 }
 
 // The state with which a search begins.
 #[derive(Drop)]
 struct Beginning {
     work: Working,
-    parts: Parts,
+    open_boxes: OpenBoxes,
 }
 
 // Returns the working box of the whole box, and the whole box as the one box left.
@@ -113,7 +113,7 @@ fn begun(alloc: Global, problem: &Problem, whole: &IntBox) -> Result<Beginning, 
     ensures area { IfOk result (λ b. b.work.sums.area ≡ whole.now) }
     ensures work { IfOk result (λ b. IsBox problem.now b.work) }
     ensures trail { IfOk result (λ b. b.work.trail ≡ []) }
-    ensures parts { IfOk result (λ b. b.parts
+    ensures open_boxes { IfOk result (λ b. b.open_boxes
         ≡ record {
           depth = 0;
           cut = None;
@@ -124,7 +124,7 @@ fn begun(alloc: Global, problem: &Problem, whole: &IntBox) -> Result<Beginning, 
 {
     let work = Working::new(alloc, problem, whole)?;
     match only_left(alloc, &work, problem) {
-        Ok(parts) => Ok(Beginning { work, parts }),
+        Ok(open_boxes) => Ok(Beginning { work, open_boxes }),
         Err(error) => {
             drop(work);
             Err(error)
@@ -177,26 +177,26 @@ impl Task {
     {
         // Shows that it is a problem: its type guarantees it.
         let _columns = problem.problem().columns();
-        let sharpening = Sharpening::new(alloc, problem.problem(), &whole);
+        let schedule = SurrogateSchedule::new(alloc, problem.problem(), &whole);
         match begun(alloc, problem.problem(), &whole) {
             Ok(begun) => Ok(Task {
                 alloc,
                 formulation: Formulation::own(problem),
                 ticket,
-                guide: Guide::plain(alloc, params),
+                scores: BranchScores::plain(alloc, params),
                 whole,
                 cutoff,
                 gap,
                 work: begun.work,
-                parts: begun.parts,
+                open_boxes: begun.open_boxes,
                 handed: Hands::new(alloc),
-                sharpening,
+                schedule,
                 conflict: None,
             }),
             Err(error) => {
                 drop(problem);
                 drop(whole);
-                drop(sharpening);
+                drop(schedule);
                 Err(error)
             }
         }
@@ -211,28 +211,28 @@ impl Task {
         ensures less { IfOk result (LeavesLess self.old self.new) }
         ensures err { OnErr result (self.new ≡ self.old) }
     {
-        self.sharpen()?;
-        self.look_on()
+        self.strengthen()?;
+        self.evaluate_next()
     }
 
     // Makes a step over the current formulation, as `step` does.
-    fn look_on(&mut self) -> Result<Step, AllocError>
+    fn evaluate_next(&mut self) -> Result<Step, AllocError>
         ensures took { IfOk result (TookStep self.old self.new) }
         ensures empty { IfOk result (λ step. (step ≡ Empty) ↔ (self.old.boxes ≡ [])) }
         ensures less { IfOk result (LeavesLess self.old self.new) }
         ensures err { OnErr result (self.new ≡ self.old) }
     {
-        let Some(last) = self.parts.last() else {
+        let Some(last) = self.open_boxes.last() else {
             return Ok(Step::Empty);
         };
-        match look_last(
+        match evaluate_last(
             self.alloc,
             &mut self.work,
             &self.formulation,
             &self.whole,
-            &self.guide,
+            &self.scores,
             self.cutoff,
-            &self.parts,
+            &self.open_boxes,
             last,
         )? {
             Seen::Hopeless(reason) => {
@@ -240,24 +240,24 @@ impl Task {
                     reason,
                     column: column_of(last.cut),
                 });
-                self.parts.drop_last();
+                self.open_boxes.drop_last();
                 Ok(Step::Pruned)
             }
             Seen::Solved(point) => {
                 let cutoff = cutoff_at(self.formulation.problem(), self.gap, &point);
                 self.cutoff = cutoff;
-                self.parts.drop_last();
+                self.open_boxes.drop_last();
                 Ok(Step::Found(point))
             }
-            Seen::Halved(halving) => {
+            Seen::Branched(branching) => {
                 split_last(
                     &self.work,
                     &self.formulation,
                     &self.whole,
-                    &self.guide,
+                    &self.scores,
                     self.cutoff,
-                    halving,
-                    &mut self.parts,
+                    branching,
+                    &mut self.open_boxes,
                 )?;
                 Ok(Step::Split)
             }
@@ -272,7 +272,7 @@ impl Task {
         ensures less { IfOk result (HandsLess self.old self.new) }
         ensures err { OnErr result (self.new ≡ self.old) }
     {
-        if self.parts.len() < 2 {
+        if self.open_boxes.len() < 2 {
             return Ok(None);
         }
         self.give()
@@ -286,7 +286,7 @@ impl Task {
         ensures less { IfOk result (HandsLess self.old self.new) }
         ensures err { OnErr result (self.new ≡ self.old) }
     {
-        let Some(first) = self.parts.first() else {
+        let Some(first) = self.open_boxes.first() else {
             return Ok(None);
         };
         let number = self.handed.len() as u64;
@@ -294,7 +294,7 @@ impl Task {
             self.alloc,
             &self.work,
             first,
-            &mut self.parts,
+            &mut self.open_boxes,
             &mut self.handed,
         )?;
         Ok(Some(Handed { number, area }))
@@ -305,21 +305,21 @@ impl Task {
         ensures { self.new ≡ self.old }
     {
         if let Some(conflict) = self.conflict.take() {
-            self.guide
+            self.scores
                 .learn(self.alloc, self.formulation.searched(), conflict);
         }
     }
 
     // Counts a step, and switches to a stronger formulation if that is due and the parameters ask
     // for it.
-    fn sharpen(&mut self) -> Result<(), AllocError>
+    fn strengthen(&mut self) -> Result<(), AllocError>
         ensures { self.new ≡ self.old }
     {
-        match self.guide.params().base {
+        match self.scores.params().base {
             Base::Bound => Ok(()),
             Base::Surrogate => {
                 self.learn();
-                if self.sharpening.is_due(self.cutoff) {
+                if self.schedule.is_due(self.cutoff) {
                     self.take_stronger()
                 } else {
                     Ok(())
@@ -334,11 +334,11 @@ impl Task {
         requires base { self.old.params.base ≡ Surrogate }
         ensures same { self.new ≡ self.old }
     {
-        let Some(last) = self.parts.last() else {
+        let Some(last) = self.open_boxes.last() else {
             return Ok(());
         };
         let area = box_of(self.alloc, &self.work, last)?;
-        let made = self.sharpening.stronger(
+        let made = self.schedule.stronger(
             self.alloc,
             self.formulation.problem(),
             &self.whole,
@@ -362,8 +362,10 @@ impl Task {
     fn follow(&mut self) -> Result<(), AllocError>
         ensures { self.new ≡ self.old }
     {
-        match self.sharpening.latest() {
-            Some(m) => self.guide.follow(self.alloc, self.formulation.problem(), m),
+        match self.schedule.latest() {
+            Some(m) => self
+                .scores
+                .follow(self.alloc, self.formulation.problem(), m),
             None => Ok(()),
         }
     }
@@ -375,7 +377,7 @@ impl Task {
         requires follows { Follows self.old.problem self.old.whole self.old.cutoff stronger }
         ensures same { self.new ≡ self.old }
     {
-        let Some(last) = self.parts.last() else {
+        let Some(last) = self.open_boxes.last() else {
             drop(stronger);
             return Ok(());
         };
@@ -390,7 +392,7 @@ impl Task {
         );
         match self.work.over(self.alloc, &stronger, &self.whole) {
             Ok(()) => {
-                self.parts.unsettle();
+                self.open_boxes.unsettle();
                 self.formulation.take(stronger);
                 Ok(())
             }
@@ -420,7 +422,7 @@ impl Task {
         ensures alone { result ≡ 0 → self.now.handed ≡ []
             → HasNoGood self.now.problem self.now.cutoff self.now.whole }
     {
-        self.parts.len() as u64
+        self.open_boxes.len() as u64
     }
 
     /// Returns the least floor of the boxes left. Takes no memory: the least floor of the boxes up
@@ -432,7 +434,7 @@ impl Task {
         ensures bound { IfSome result (BoundsTheRest self.old) }
         ensures small { IfSome result (λ low. unsigned_abs low ≤ 2 * 10 ^ 37) }
     {
-        self.parts.lowest()
+        self.open_boxes.lowest()
     }
 
     /// Returns the boxes handed, in order. Takes no memory.
@@ -479,7 +481,7 @@ impl Task {
     pub fn params(&self) -> Params
         ensures { result ≡ self.now.params }
     {
-        self.guide.params()
+        self.scores.params()
     }
 
     /// Returns the cutoff, the value below which points are searched for, if there is one.

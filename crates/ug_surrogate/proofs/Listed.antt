@@ -4,7 +4,7 @@ use Rattle.std.proofs.lemmas.Bool.{cases_lt}
 use Rattle.std.proofs.lemmas.List.{length-append}
 use Rattle.ug_problem.specs.Instances.{Instance}
 use Rattle.ug_surrogate.specs.declared.multipliers.Multiplier.{Multiplier}
-use Rattle.ug_surrogate.specs.Guesses.{AreOfRowsBelow}
+use Rattle.ug_surrogate.specs.Subgradients.{AreOfRowsBelow}
 use Rattle.ug_surrogate.specs.Weights.{AreRising, HasSide, IsBefore, multiplier_at}
 
 pub none_yet : (p : Instance) → AreOfRowsBelow p 0 []

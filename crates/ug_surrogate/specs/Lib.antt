@@ -3,5 +3,5 @@ pub mod Magnitudes
 pub mod Columns
 pub mod Rounding
 pub mod Implied
-pub mod Guesses
+pub mod Subgradients
 pub mod Stronger

@@ -7,13 +7,13 @@ use crate::tasks::SQUARE;
 use std::alloc::Global;
 use ug_mps::read;
 use ug_problem::Problem;
-use ug_surrogate::guessed;
+use ug_surrogate::subgradient_multipliers;
 
 // Problems, and a bound that guessed multipliers of them give at least.
 const GUESSES: &[(&[u8], i128)] = &[(SQUARE, 5), (COVER, 2), (KNAPSACK, -14), (RANGED, -4)];
 
 fn reaches(alloc: Global, problem: &Problem, least: i128) -> bool {
-    let Ok(m) = guessed(alloc, problem, problem.root(), 200) else {
+    let Ok(m) = subgradient_multipliers(alloc, problem, problem.root(), 200) else {
         return false;
     };
     let told = bound_of(problem, &m);

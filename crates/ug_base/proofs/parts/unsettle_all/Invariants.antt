@@ -1,5 +1,0 @@
-use Rattle.ug_base.proofs.Over.{AreUnsettledTo}
-use Rattle.ug_base.proofs.parts.unsettle_all.Given as goal
-
-abbrev pub invariant-loop-k : goal.invariant-loop-k
-invariant-loop-k l = AreUnsettledTo l.k l.initial.kept.items l.kept.items

@@ -1,5 +1,0 @@
-use Rattle.ug_surrogate.specs.Guesses.{AreOfRowsBelow}
-use Rattle.ug_surrogate.proofs.guessing.listed.Given as goal
-
-abbrev pub invariant-loop-row : goal.invariant-loop-row
-invariant-loop-row l = AreOfRowsBelow l.problem l.row l.list.items
