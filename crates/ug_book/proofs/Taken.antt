@@ -17,8 +17,8 @@ use Rattle.ug_rules.specs.declared.heard.Heard.{Heard}
 use Rattle.ug_rules.specs.declared.heard.Heard.TheVariants.{Kept, Stale, Early, Broken, NotBetter, InRace, Again, Gap, Outside, Unbacked, Short, Memory}
 use Rattle.ug_rules.specs.State.{BookState, nodes_of, raced_node}
 use Rattle.ug_rules.proofs.RoomLemmas.{TakesNone, kept_takes_none}
-use Rattle.ug_stock.specs.declared.stock.Stock.{Stock}
-use Rattle.ug_stock.specs.Stocks.{HasRoom, with_stock}
+use Rattle.ug_stock.specs.declared.frontier.Frontier.{Frontier}
+use Rattle.ug_stock.specs.Frontiers.{HasRoom, with_frontier}
 
 nothing : (b : BookState) → TakesNone b b
 nothing b = record { work = omega arith; raced = omega arith; orders = omega arith }
@@ -39,13 +39,13 @@ taken_takes_none b (Short said was) r report l = nothing b
 taken_takes_none b Memory r report l = nothing b
 
 -- so there is room still
-pub room_taken : (b : BookState) (old new : Stock) (answer : Heard) (r : ℕ) (report : Report)
+pub room_taken : (b : BookState) (old new : Frontier) (answer : Heard) (r : ℕ) (report : Report)
     → r < length old.ranks
-    → with_stock b new ≡ taken_up answer r report (with_stock b old)
+    → with_frontier b new ≡ taken_up answer r report (with_frontier b old)
     → new.pool.spare ≡ old.pool.spare → new.orders.spare ≡ old.orders.spare → HasRoom old
     → HasRoom new
 room_taken b old new answer r report l e pool orders room =
-    let none = taken_takes_none (with_stock b old) answer r report l in
+    let none = taken_takes_none (with_frontier b old) answer r report l in
     let work = ap (λ (k : BookState). length (nodes_of k.ranks)) e in
     let raced = ap (λ (k : BookState). length (raced_node k.raced)) e in
     record {

@@ -5,9 +5,9 @@ use Rattle.ug_rules.specs.declared.told.Told.{Told}
 use Rattle.ug_rules.specs.State.{BookState}
 use Rattle.ug_rules.specs.Books.{IsBook}
 use Rattle.ug_rules.proofs.BookLemmas.{book_with_rest}
-use Rattle.ug_stock.specs.declared.stock.Stock.{Stock}
+use Rattle.ug_stock.specs.declared.frontier.Frontier.{Frontier}
 use Rattle.ug_stock.specs.Queues.{IsTold, Queued}
-use Rattle.ug_stock.specs.Stocks.{HasRoom}
+use Rattle.ug_stock.specs.Frontiers.{HasRoom}
 
 pub told_book : (b : BookState) (old new : Queued) (r : Option Told) → b.orders ≡ old.orders
     → MatchOption r ((old.orders ≡ []) × (new ≡ old)) (IsTold old new) → IsBook b
@@ -17,7 +17,7 @@ told_book b old new None same none h =
     (subst (λ (orders : List Told). IsBook (record b { orders = orders })) same h)
 told_book b old new (Some told) same some h = book_with_rest b told new.orders (same ∙ some.first) h
 
-pub told_room : (s : Stock) (new : Queued) (r : Option Told)
+pub told_room : (s : Frontier) (new : Queued) (r : Option Told)
     → MatchOption r ((s.orders.orders ≡ []) × (new ≡ s.orders)) (IsTold s.orders new) → HasRoom s
     → HasRoom (record s { orders = new })
 told_room s new None none room = record {

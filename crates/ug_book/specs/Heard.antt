@@ -12,21 +12,21 @@ use Rattle.ug_rules.specs.State.{BookState}
 use Rattle.ug_rules.specs.Books.{KeepsItsFloor}
 use Rattle.ug_rules.specs.Hearing.{IsDue, taken_up}
 use Rattle.ug_stock.specs.declared.run.Run.{Run}
-use Rattle.ug_stock.specs.declared.stock.Stock.{Stock}
+use Rattle.ug_stock.specs.declared.frontier.Frontier.{Frontier}
 use Rattle.ug_stock.specs.Runs.{KnowsFloor}
-use Rattle.ug_stock.specs.Stocks.{HasRoom, with_stock}
+use Rattle.ug_stock.specs.Frontiers.{HasRoom, with_frontier}
 
 -- the book with this incumbent and this stock
-abbrev pub with_held : BookState → Option (List ℤ) → Stock → BookState
-with_held b best stock = record (with_stock b stock) { best = best }
+abbrev pub with_held : BookState → Option (List ℤ) → Frontier → BookState
+with_held b best frontier = record (with_frontier b frontier) { best = best }
 
 -- a report of the rank can be received: the rank is one of the run's, and has its floor, the root's
 -- floor is known, and there is room for each end
-pub record CanHear (run : Run) (rank : ℕ) (stock : Stock) : Type 0 where
-  pub there : rank < length stock.ranks
-  pub kept : KeepsItsFloor run.problem (state_at stock.ranks rank)
+pub record CanHear (run : Run) (rank : ℕ) (frontier : Frontier) : Type 0 where
+  pub there : rank < length frontier.ranks
+  pub kept : KeepsItsFloor run.problem (state_at frontier.ranks rank)
   pub floor : KnowsFloor run
-  pub room : HasRoom stock
+  pub room : HasRoom frontier
 
 -- the incumbent can be compared with: it is feasible, the gap is one, and the cutoff is its own
 pub record CanCompare (run : Run) (incumbent : Incumbent) : Type 0 where

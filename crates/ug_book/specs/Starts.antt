@@ -15,7 +15,7 @@ use Rattle.ug_rules.specs.declared.settings.Settings.{Settings}
 use Rattle.ug_rules.specs.State.{BookState}
 use Rattle.ug_rules.specs.Books.{HasItsFloor}
 use Rattle.ug_stock.specs.declared.run.Run.{Run}
-use Rattle.ug_stock.specs.declared.stock.Stock.{Stock}
+use Rattle.ug_stock.specs.declared.frontier.Frontier.{Frontier}
 use Rattle.ug_stock.specs.Runs.{KnowsFloor}
 use Rattle.ug_book.specs.declared.opening.Opening.{Opening}
 
@@ -58,15 +58,15 @@ pub record IsRunOf (o : Opening) (run : Run) : Type 0 where
 
 -- the starting nodes with these boxes are in the pool, each with its floor, all ranks are absent,
 -- no ticket was given, no order is queued, and this cutoff counts as announced
-pub record IsFirstStock (run : Run) (cutoff : Option ℤ) (boxes : List (List Change)) (stock : Stock)
+pub record IsFirstFrontier (run : Run) (cutoff : Option ℤ) (boxes : List (List Change)) (frontier : Frontier)
     : Type 0 where
-  pub pool : stock.pool.entries ≡ with_entries (start_entries run.problem run.number 0 boxes) []
-  pub floors : All (HasItsFloor run.problem) stock.pool.entries
-  pub ranks : stock.ranks ≡ replicate run.settings.solvers Absent
-  pub raced : stock.raced ≡ None
-  pub last : stock.last ≡ 0
-  pub orders : stock.orders.orders ≡ []
-  pub announced : stock.announced ≡ cutoff
+  pub pool : frontier.pool.entries ≡ with_entries (start_entries run.problem run.number 0 boxes) []
+  pub floors : All (HasItsFloor run.problem) frontier.pool.entries
+  pub ranks : frontier.ranks ≡ replicate run.settings.solvers Absent
+  pub raced : frontier.raced ≡ None
+  pub last : frontier.last ≡ 0
+  pub orders : frontier.orders.orders ≡ []
+  pub announced : frontier.announced ≡ cutoff
 
 -- the starting nodes are in the pool, all ranks are absent, and no ticket was given
 abbrev pub started : Instance → ℕ → Option (List ℤ) → List (List Change) → Settings → BookState

@@ -4,7 +4,7 @@ use Rattle.ug_problem.specs.Better.{IsSmallCutoff, best_cutoff}
 use Rattle.ug_rules.specs.State.{BookState}
 use Rattle.ug_rules.specs.Books.{IsBook}
 use Rattle.ug_stock.specs.Runs.{KnowsFloor}
-use Rattle.ug_stock.specs.Stocks.{HasRoom}
+use Rattle.ug_stock.specs.Frontiers.{HasRoom}
 use Rattle.ug_book.specs.declared.book.Book.TheInside.{Inside}
 
 -- what the fields of a book say
@@ -14,13 +14,13 @@ state_of b = record {
   run = b.run.number;
   settings = b.run.settings;
   best = b.incumbent.best;
-  pool = b.stock.pool.entries;
-  ranks = b.stock.ranks;
-  raced = b.stock.raced;
-  last = b.stock.last;
-  orders = b.stock.orders.orders;
+  pool = b.frontier.pool.entries;
+  ranks = b.frontier.ranks;
+  raced = b.frontier.raced;
+  last = b.frontier.last;
+  orders = b.frontier.orders.orders;
   heard = b.heard;
-  announced = b.stock.announced;
+  announced = b.frontier.announced;
 }
 
 -- the fields are those of a book, the cutoff is the incumbent's, and there is room for each node
@@ -31,7 +31,7 @@ pub record IsRoomy (b : Inside) : Type 0 where
       ≡ best_cutoff b.run.problem b.run.settings.gap b.incumbent.best
   pub small : IsSmallCutoff b.incumbent.cutoff
   pub floor : KnowsFloor b.run
-  pub room : HasRoom b.stock
+  pub room : HasRoom b.frontier
 
 -- what no call changes: the problem, the run, the settings, and how many ranks there are
 pub record IsSameRun (old new : BookState) : Type 0 where

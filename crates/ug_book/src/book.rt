@@ -1,14 +1,14 @@
 use crate::incumbent::Incumbent;
 use std::marker::Model;
-use ug_stock::{Run, Stock};
+use ug_stock::{Frontier, Run};
 
-/// The state of a coordinator: what no call changes, the incumbent, the stock, and the number of
+/// The state of a coordinator: what no call changes, the incumbent, the frontier, and the number of
 /// reports received.
 #[derive(Drop)]
 pub struct Book {
     pub(crate) run: Run,
     pub(crate) incumbent: Incumbent,
-    pub(crate) stock: Stock,
+    pub(crate) frontier: Frontier,
     pub(crate) heard: u64,
 }
 

@@ -28,7 +28,7 @@ impl Book {
             (ticket_at (state_at self.now.ranks rank) ≡ None)
             (IsCurrentAt (state_at self.now.ranks rank) self.now.raced) }
     {
-        current_at(self.stock.ranks.state(rank), &self.stock.raced)
+        current_at(self.frontier.ranks.state(rank), &self.frontier.raced)
     }
 
     /// The boxes of the hands that were taken under the ticket of a rank, in order; none where it
@@ -37,7 +37,7 @@ impl Book {
         requires { rank < length self.now.ranks }
         ensures { result.now ≡ taken_at (state_at self.now.ranks rank) }
     {
-        self.stock.ranks.taken(rank)
+        self.frontier.ranks.taken(rank)
     }
 
     /// How many hands a rank is still asked for; 0 where it is asked for none.
@@ -45,7 +45,7 @@ impl Book {
         requires { rank < length self.now.ranks }
         ensures { result ≡ asked_at (state_at self.now.ranks rank) }
     {
-        self.stock.ranks.state(rank).asked()
+        self.frontier.ranks.state(rank).asked()
     }
 }
 

@@ -23,6 +23,6 @@ impl Book {
         ensures some { IfErr result (λ e. 0 < e.stood) }
         ensures sound { IsSoundBook self.old → IsSoundBook self.new }
     {
-        self.stock.decide(&self.run, self.incumbent.cutoff)
+        self.frontier.decide(&self.run, self.incumbent.cutoff)
     }
 }

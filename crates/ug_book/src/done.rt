@@ -5,41 +5,41 @@ ghost use Rattle.ug_frames.specs.declared.report.Report.TheVariants.{Done};
 ghost use Rattle.ug_ranks.specs.States.{state_at};
 ghost use Rattle.ug_rules.specs.State.{BookState};
 ghost use Rattle.ug_rules.specs.Hearing.{IsDoneDue, IsDueUnder, done_at, taken_up};
-ghost use Rattle.ug_stock.specs.Stocks.{with_stock};
+ghost use Rattle.ug_stock.specs.Frontiers.{with_frontier};
 ghost use Rattle.ug_book.specs.Dones.{is_backed};
 
 use crate::origin::Origin;
 use ug_pool::Entry;
 use ug_ranks::Ranks;
 use ug_rules::Heard;
-use ug_stock::{Stock, free_racers};
+use ug_stock::{Frontier, free_racers};
 
 // A Done of a rank, under a ticket; however it ended, the same is asked of it.
 pub fn hear_done(
-    stock: &mut Stock,
+    frontier: &mut Frontier,
     from: Origin,
     incumbent: Option<i128>,
     cutoff: Option<i128>,
     count: u64,
 ) -> Heard
-    requires { from.rank < length stock.old.ranks }
+    requires { from.rank < length frontier.old.ranks }
     ensures due { (b : BookState) (ending : Ending)
         → best_cutoff b.problem b.settings.gap b.best ≡ incumbent
-        → IsDueUnder b (state_at stock.old.ranks from.rank) from.ticket
+        → IsDueUnder b (state_at frontier.old.ranks from.rank) from.ticket
         (Done from.ticket cutoff count ending) result }
-    ensures taken { (b : BookState) (ending : Ending) → with_stock b stock.new
+    ensures taken { (b : BookState) (ending : Ending) → with_frontier b frontier.new
         ≡ taken_up result from.rank (Done from.ticket cutoff count ending)
-        (with_stock b stock.old) }
-    ensures pool { stock.new.pool ≡ stock.old.pool }
-    ensures orders { stock.new.orders ≡ stock.old.orders }
+        (with_frontier b frontier.old) }
+    ensures pool { frontier.new.pool ≡ frontier.old.pool }
+    ensures orders { frontier.new.orders ≡ frontier.old.orders }
 {
-    let state = stock.ranks.state(from.rank);
+    let state = frontier.ranks.state(from.rank);
     if !state.has_ticket(from.ticket) {
         return Heard::Stale;
     }
     let answer = judge_done(incumbent, state.hands_taken(), cutoff, count);
     if answer == Heard::Kept {
-        finish(&mut stock.ranks, &mut stock.raced, from.rank);
+        finish(&mut frontier.ranks, &mut frontier.raced, from.rank);
     }
     answer
 }

@@ -1,6 +1,6 @@
 use ug_pool::Entry;
 use ug_ranks::{Racer, State, Work};
-use ug_stock::Stock;
+use ug_stock::Frontier;
 
 // Returns the floor that a rank reported last, or before its first report the floor of its node.
 fn floor_of_work(work: &Work) -> i128 {
@@ -31,13 +31,13 @@ fn floor_of_race(raced: &Entry, states: &[State]) -> i128 {
 
 /// The least floor of what is held: in the pool, whose first node has the least, with ranks, and in
 /// a race. The greatest number of all where nothing is held.
-pub fn least_floor(stock: &Stock) -> i128 {
-    let states = stock.ranks.as_slice();
-    let mut least = match &stock.raced {
+pub fn least_floor(frontier: &Frontier) -> i128 {
+    let states = frontier.ranks.as_slice();
+    let mut least = match &frontier.raced {
         Some(raced) => floor_of_race(raced, states),
         None => i128::MAX,
     };
-    if let Some(first) = stock.pool.first() {
+    if let Some(first) = frontier.pool.first() {
         least = first.floor.min(least);
     }
     for state in states {

@@ -4,7 +4,7 @@ ghost use Rattle.ug_nodes.specs.Changes.{IsRising};
 ghost use Rattle.ug_frames.specs.declared.report.Report.TheVariants.{Hand};
 ghost use Rattle.ug_ranks.specs.States.{state_at};
 ghost use Rattle.ug_stock.specs.Runs.{KnowsFloor};
-ghost use Rattle.ug_stock.specs.Stocks.{HasRoom, with_stock};
+ghost use Rattle.ug_stock.specs.Frontiers.{HasRoom, with_frontier};
 ghost use Rattle.ug_rules.specs.State.{BookState};
 ghost use Rattle.ug_rules.specs.Books.{KeepsItsFloor};
 ghost use Rattle.ug_rules.specs.Hearing.{IsDueUnder, taken_up};
@@ -16,28 +16,34 @@ use ug_nodes::Changes;
 use ug_problem::Problem;
 use ug_ranks::State;
 use ug_rules::Heard;
-use ug_stock::{Run, Stock, judge};
+use ug_stock::{Frontier, Run, judge};
 
 // A hand of a rank, under a ticket.
-pub fn hear_hand(run: &Run, stock: &mut Stock, from: Origin, number: u64, changes: Changes) -> Heard
-    requires can { CanHear run.now from.rank stock.old }
+pub fn hear_hand(
+    run: &Run,
+    frontier: &mut Frontier,
+    from: Origin,
+    number: u64,
+    changes: Changes,
+) -> Heard
+    requires can { CanHear run.now from.rank frontier.old }
     ensures due { (b : BookState) → b.problem ≡ run.now.problem
-        → IsDueUnder b (state_at stock.old.ranks from.rank) from.ticket
+        → IsDueUnder b (state_at frontier.old.ranks from.rank) from.ticket
         (Hand from.ticket number changes) result }
     ensures taken { (b : BookState) → b.problem ≡ run.now.problem
-        → with_stock b stock.new ≡ taken_up result from.rank (Hand from.ticket number changes)
-        (with_stock b stock.old) }
+        → with_frontier b frontier.new ≡ taken_up result from.rank (Hand from.ticket number changes)
+        (with_frontier b frontier.old) }
     ensures rising { IsRising changes }
-    ensures room { HasRoom stock.new }
+    ensures room { HasRoom frontier.new }
 {
-    let state = stock.ranks.state(from.rank);
+    let state = frontier.ranks.state(from.rank);
     if !state.has_ticket(from.ticket) {
         return Heard::Stale;
     }
     if let Some(answer) = judge_hand(run.problem.problem(), state, number, &changes) {
         return answer;
     }
-    match stock.take_hand(run, from.rank, changes) {
+    match frontier.take_hand(run, from.rank, changes) {
         Ok(()) => Heard::Kept,
         Err(_) => Heard::Memory,
     }

@@ -6,7 +6,7 @@ ghost use Rattle.ug_rules.specs.Deaths.{killed};
 ghost use Rattle.ug_rules.specs.Hearing.{IsDue, IsHearable, after_hearing, is_deadly, killed_under};
 ghost use Rattle.ug_rules.specs.HearingLaws.{IsTrueReport};
 ghost use Rattle.ug_rules.specs.State.{BookState};
-ghost use Rattle.ug_stock.specs.Stocks.{HasRoom, with_stock};
+ghost use Rattle.ug_stock.specs.Frontiers.{HasRoom, with_frontier};
 ghost use Rattle.ug_book.specs.Views.{IsSameRun};
 ghost use Rattle.ug_book.specs.Heard.{heard_after};
 
@@ -14,7 +14,7 @@ use crate::book::Book;
 use crate::report::take_report;
 use ug_frames::Report;
 use ug_rules::Heard;
-use ug_stock::Stock;
+use ug_stock::Frontier;
 
 impl Book {
     /// Receives a report of a rank and returns the answer that is due. After an answer that means a
@@ -33,11 +33,11 @@ impl Book {
         let answer = take_report(
             &self.run,
             &mut self.incumbent,
-            &mut self.stock,
+            &mut self.frontier,
             rank,
             report,
         );
-        end_by(answer, &mut self.stock, rank);
+        end_by(answer, &mut self.frontier, rank);
         self.heard = heard_after(answer, self.heard);
         answer
     }
@@ -51,7 +51,7 @@ impl Book {
         ensures same { IsSameRun self.old self.new }
         ensures sound { IsSoundBook self.old → IsSoundBook self.new }
     {
-        self.stock.ranks.idle(rank);
+        self.frontier.ranks.idle(rank);
     }
 
     /// Declares the rank lost. Takes no memory.
@@ -61,20 +61,20 @@ impl Book {
         ensures same { IsSameRun self.old self.new }
         ensures sound { IsSoundBook self.old → IsSoundBook self.new }
     {
-        self.stock.die(rank);
+        self.frontier.die(rank);
     }
 }
 
 // Carries out the death of the rank, if the answer is one.
-fn end_by(answer: Heard, stock: &mut Stock, rank: u32)
-    requires there { rank < length stock.old.ranks }
-    requires room { HasRoom stock.old }
-    ensures ended { (b : BookState) → with_stock b stock.new
-        ≡ killed_under answer rank (with_stock b stock.old) }
-    ensures room { HasRoom stock.new }
+fn end_by(answer: Heard, frontier: &mut Frontier, rank: u32)
+    requires there { rank < length frontier.old.ranks }
+    requires room { HasRoom frontier.old }
+    ensures ended { (b : BookState) → with_frontier b frontier.new
+        ≡ killed_under answer rank (with_frontier b frontier.old) }
+    ensures room { HasRoom frontier.new }
 {
     if is_deadly(answer) {
-        stock.die(rank);
+        frontier.die(rank);
     }
 }
 

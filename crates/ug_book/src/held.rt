@@ -7,17 +7,17 @@ use std::alloc::{AllocError, Global};
 use ug_nodes::Node;
 use ug_pool::{Entry, OpenNodes, Pool};
 use ug_ranks::{Ranks, State};
-use ug_stock::Stock;
+use ug_stock::Frontier;
 
 // The nodes of the pool, of the ranks, and the one that is raced.
-pub fn held_nodes<'a>(alloc: Global, stock: &'a Stock) -> Result<Vec<&'a Node>, AllocError>
-    ensures { IfOk result (λ nodes. lent nodes.items ≡ nodes_in stock.now.pool.entries
-        ++ nodes_of stock.now.ranks ++ raced_node stock.now.raced) }
+pub fn held_nodes<'a>(alloc: Global, frontier: &'a Frontier) -> Result<Vec<&'a Node>, AllocError>
+    ensures { IfOk result (λ nodes. lent nodes.items ≡ nodes_in frontier.now.pool.entries
+        ++ nodes_of frontier.now.ranks ++ raced_node frontier.now.raced) }
 {
     let mut nodes = Vec::new(alloc);
-    push_pool(&mut nodes, &stock.pool)?;
-    push_ranks(&mut nodes, &stock.ranks)?;
-    push_entry(&mut nodes, stock.raced.as_ref())?;
+    push_pool(&mut nodes, &frontier.pool)?;
+    push_ranks(&mut nodes, &frontier.ranks)?;
+    push_entry(&mut nodes, frontier.raced.as_ref())?;
     Ok(nodes)
 }
 

@@ -82,14 +82,14 @@ impl Book {
     pub fn open(&self) -> usize
         ensures { result ≡ length self.now.pool }
     {
-        self.stock.pool.len()
+        self.frontier.pool.len()
     }
 
     pub fn is_alive(&self, rank: u32) -> bool
         requires { rank < length self.now.ranks }
         ensures { result ≡ is_alive (state_at self.now.ranks rank) }
     {
-        self.stock.ranks.state(rank).is_alive()
+        self.frontier.ranks.state(rank).is_alive()
     }
 
     /// The earliest order that waits, which leaves.
@@ -99,7 +99,7 @@ impl Book {
             (IsOrderTold self.old self.new) }
         ensures sound { IsSoundBook self.old → IsSoundBook self.new }
     {
-        self.stock.orders.next()
+        self.frontier.orders.next()
     }
 
     /// The nodes held, lent: the pool in its order, then those of the ranks, rising, then the one
@@ -107,7 +107,7 @@ impl Book {
     pub fn held(&self) -> Result<Vec<&Node>, AllocError>
         ensures { IfOk result (λ nodes. lent nodes.items ≡ held_nodes self.now) }
     {
-        held_nodes(self.run.alloc, &self.stock)
+        held_nodes(self.run.alloc, &self.frontier)
     }
 
     /// The nodes held none of whose ancestors is held, lent, in order of name. They have each
@@ -149,15 +149,15 @@ impl Book {
         if self.is_empty() {
             return None;
         }
-        Some(least_floor(&self.stock))
+        Some(least_floor(&self.frontier))
     }
 
     // Whether no node is held.
     fn is_empty(&self) -> bool
         ensures { IsTrue result ↔ (held_nodes self.now ≡ []) }
     {
-        self.stock.pool.len() == 0
-            && self.stock.raced.is_none()
-            && !is_any_working(self.stock.ranks.as_slice())
+        self.frontier.pool.len() == 0
+            && self.frontier.raced.is_none()
+            && !is_any_working(self.frontier.ranks.as_slice())
     }
 }

@@ -4,7 +4,7 @@ ghost use Rattle.ug_nodes.specs.Changes.{AreChangesOf};
 ghost use Rattle.ug_rules.specs.Books.{HasItsFloor, IsSoundBook};
 ghost use Rattle.ug_stock.specs.Runs.{KnowsFloor};
 ghost use Rattle.ug_book.specs.Openings.{IsCoveredOpening, IsOpening, opening_book};
-ghost use Rattle.ug_book.specs.Starts.{IsFirstStock, IsRunOf, IsStartPut, start_entries, with_entries};
+ghost use Rattle.ug_book.specs.Starts.{IsFirstFrontier, IsRunOf, IsStartPut, start_entries, with_entries};
 
 use crate::best::Best;
 use crate::book::Book;
@@ -14,7 +14,7 @@ use std::alloc::{AllocError, Global};
 use ug_nodes::{Changes, Line, Name, Node, Ticket};
 use ug_pool::{OpenNodes, Pool};
 use ug_ranks::Ranks;
-use ug_stock::{Queue, Run, Stock};
+use ug_stock::{Frontier, Queue, Run};
 
 impl Book {
     /// The book with which a run starts: its nodes have the opening's boxes, and the names that
@@ -31,11 +31,11 @@ impl Book {
             return Err(AllocError);
         };
         let incumbent = Incumbent::new(&run, Best::new(best));
-        match first_stock(&run, incumbent.cutoff, &opening.boxes) {
-            Ok(stock) => Ok(Book {
+        match first_frontier(&run, incumbent.cutoff, &opening.boxes) {
+            Ok(frontier) => Ok(Book {
                 run,
                 incumbent,
-                stock,
+                frontier,
                 heard: 0,
             }),
             Err(error) => {
@@ -63,14 +63,14 @@ fn run_of(alloc: Global, opening: &Opening) -> Result<Run, AllocError>
 }
 
 // The starting nodes in the pool, and each rank absent.
-fn first_stock(run: &Run, announced: Option<i128>, boxes: &Boxes) -> Result<Stock, AllocError>
+fn first_frontier(run: &Run, announced: Option<i128>, boxes: &Boxes) -> Result<Frontier, AllocError>
     requires floor { KnowsFloor run.now }
     requires boxes { All (AreChangesOf (root_of run.now.problem)) boxes.now }
-    ensures { IfOk result (IsFirstStock run.now announced boxes.now) }
+    ensures { IfOk result (IsFirstFrontier run.now announced boxes.now) }
 {
     let pool = start_pool(run, boxes)?;
     match Ranks::new(run.alloc, run.settings.solvers) {
-        Ok(ranks) => Ok(Stock {
+        Ok(ranks) => Ok(Frontier {
             pool,
             ranks,
             raced: None,

@@ -14,9 +14,9 @@ use Rattle.ug_ranks.specs.States.{state_at}
 use Rattle.ug_ranks.specs.Changes.{grown}
 use Rattle.ug_rules.specs.State.{node_at, nodes_of, raced_node}
 use Rattle.ug_rules.proofs.RoomLemmas.{writing_counts}
-use Rattle.ug_stock.specs.declared.stock.Stock.{Stock}
+use Rattle.ug_stock.specs.declared.frontier.Frontier.{Frontier}
 use Rattle.ug_stock.specs.Hands.{IsHandTaken, IsNothingTaken, IsWorking}
-use Rattle.ug_stock.specs.Stocks.{HasRoom}
+use Rattle.ug_stock.specs.Frontiers.{HasRoom}
 use Rattle.ug_stock.proofs.Works.{few_work}
 
 pub few_first : (ss : List State) (k : ℕ) → length (nodes_of (take k ss)) ≤ length ss
@@ -42,7 +42,7 @@ same_work ss r area there =
 
 -- with a place more than nodes are out, each still has one after a hand
 pub room_kept : {A E : Type 0} (result : Result A E) (objective : Objective)
-    (root : List Interval) (rank : ℕ) (changes : List Change) (s : Stock) (new : List State)
+    (root : List Interval) (rank : ℕ) (changes : List Change) (s : Frontier) (new : List State)
     (old_pool new_pool : Pooled) → rank < length s.ranks → IsWorking (state_at s.ranks rank)
     → length (nodes_of s.ranks) + length (raced_node s.raced) + 1 ≤ old_pool.spare → HasRoom s
     → OnOk result (IsHandTaken objective root rank changes s.ranks old_pool new new_pool)

@@ -17,8 +17,8 @@ use Rattle.ug_ranks.specs.Looks.{is_idle}
 use Rattle.ug_rules.specs.Deciding.{raced_by_all}
 use Rattle.ug_rules.proofs.WorkLemmas.{state_there}
 use Rattle.ug_stock.specs.declared.terms.Terms.{Terms}
-use Rattle.ug_stock.specs.declared.stock.Stock.{Stock}
-use Rattle.ug_stock.specs.Stocks.{AreTermsOf, with_stock}
+use Rattle.ug_stock.specs.declared.frontier.Frontier.{Frontier}
+use Rattle.ug_stock.specs.Frontiers.{AreTermsOf, with_frontier}
 use Rattle.ug_stock.specs.Racing.{HasJoinedRace, HaveJoinedRace, KeepsPoolAndRace}
 use Rattle.ug_stock.proofs.Places.{none_works}
 
@@ -49,14 +49,14 @@ idle_none ss r end = ap (λ (xs : List State). of_ranks (rank_if is_idle) r xs) 
     drop_all (s ∷ ss) (suc r) end = drop_all ss r (omega (arith, end))
 
 -- the idle ranks before r have joined, each with one of the boxes
-pub record Joining (terms : Terms) (first boxes : List (List Change)) (old now : Stock) (r : ℕ)
+pub record Joining (terms : Terms) (first boxes : List (List Change)) (old now : Frontier) (r : ℕ)
     : Type 0 where
   pub alike : (entry : Entry) → All (λ box. entry.node.changes ≡ box) first
       → All (λ box. entry.node.changes ≡ box) boxes
   pub joined : (b : BookState) (entry : Entry) → AreTermsOf b terms
       → All (λ box. entry.node.changes ≡ box) first
-      → raced_by_all (idle_from r old.ranks) entry (with_stock b now)
-      ≡ raced_by_all (ranks_that is_idle old.ranks) entry (with_stock b old)
+      → raced_by_all (idle_from r old.ranks) entry (with_frontier b now)
+      ≡ raced_by_all (ranks_that is_idle old.ranks) entry (with_frontier b old)
   pub left : length boxes ≡ length (idle_from r old.ranks)
   pub wide : length now.ranks ≡ length old.ranks
   pub rest : (j : ℕ) → r ≤ j → state_at now.ranks j ≡ state_at old.ranks j
@@ -66,7 +66,7 @@ pub record Joining (terms : Terms) (first boxes : List (List Change)) (old now :
   pub nodes : length (nodes_of now.ranks) ≡ length (nodes_of old.ranks)
   pub kept : KeepsPoolAndRace old now
 
-pub none_joined : (terms : Terms) (boxes : List (List Change)) (old : Stock)
+pub none_joined : (terms : Terms) (boxes : List (List Change)) (old : Frontier)
     → length boxes ≡ length (ranks_that is_idle old.ranks) → old.last ≡ 0
     → Joining terms boxes boxes old old 0
 none_joined terms boxes old as_many start = record {
@@ -82,13 +82,13 @@ none_joined terms boxes old as_many start = record {
 }
 
 -- a rank that is not idle is passed
-pub other_passed : (terms : Terms) (first boxes : List (List Change)) (old now : Stock) (r : ℕ)
+pub other_passed : (terms : Terms) (first boxes : List (List Change)) (old now : Frontier) (r : ℕ)
     → r < length old.ranks → is_idle (state_at now.ranks r) ≡ false
     → Joining terms first boxes old now r → Joining terms first boxes old now (r + 1)
 other_passed terms first boxes old now r there other p = record {
   alike = p.alike;
   joined = λ b entry is same. ap
-      (λ (rs : List ℕ). raced_by_all rs entry (with_stock b now)) (sym later)
+      (λ (rs : List ℕ). raced_by_all rs entry (with_frontier b now)) (sym later)
       ∙ p.joined b entry is same;
   left = p.left ∙ ap (λ (rs : List ℕ). length rs) later;
   wide = p.wide;
@@ -103,7 +103,7 @@ other_passed terms first boxes old now r there other p = record {
     later = idle_later old.ranks r there (ap is_idle (sym (p.rest r (omega arith))) ∙ other)
 
 -- while one that is idle is left, so is a box
-pub box_left : (terms : Terms) (first boxes : List (List Change)) (old now : Stock) (r : ℕ)
+pub box_left : (terms : Terms) (first boxes : List (List Change)) (old now : Frontier) (r : ℕ)
     → r < length old.ranks → state_at now.ranks r ≡ Idle → Joining terms first boxes old now r
     → 0 < length boxes
 box_left terms first boxes old now r there idle p =
@@ -111,7 +111,7 @@ box_left terms first boxes old now r there idle p =
     omega (arith, p.left, ap (λ (rs : List ℕ). length rs) more)
 
 -- so is a place in the queue
-pub place_left : (terms : Terms) (first boxes : List (List Change)) (old now : Stock) (r : ℕ)
+pub place_left : (terms : Terms) (first boxes : List (List Change)) (old now : Frontier) (r : ℕ)
     → r < length old.ranks → state_at now.ranks r ≡ Idle
     → length (ranks_that is_idle old.ranks) ≤ old.orders.spare
     → Joining terms first boxes old now r → 0 < now.orders.spare
@@ -121,7 +121,7 @@ place_left terms first boxes old now r there idle room p =
 
 -- one that is idle joins
 pub one_joins : (terms : Terms) (first boxes less : List (List Change)) (box : List Change)
-    (old now new : Stock) (racer : Racer) (r : ℕ) → r < length old.ranks
+    (old now new : Frontier) (racer : Racer) (r : ℕ) → r < length old.ranks
     → state_at now.ranks r ≡ Idle → boxes ≡ less ++ option_to_list (Some box)
     → new.ranks ≡ slice_set now.ranks r (Racing racer) → new.last ≡ now.last + 1
     → new.orders.spare + 1 ≡ now.orders.spare → KeepsPoolAndRace now new
@@ -133,7 +133,7 @@ one_joins terms first boxes less box old now new racer r there idle popped writt
       joined = λ b entry is same. ap
           (λ (c : BookState). raced_by_all (idle_from (r + 1) old.ranks) entry c)
           (made b entry is (halves entry same).1)
-          ∙ (ap (λ (rs : List ℕ). raced_by_all rs entry (with_stock b now)) (sym more)
+          ∙ (ap (λ (rs : List ℕ). raced_by_all rs entry (with_frontier b now)) (sym more)
           ∙ p.joined b entry is same);
       left = omega (
         arith,
@@ -163,16 +163,16 @@ one_joins terms first boxes less box old now new racer r there idle popped writt
         (p.alike entry same)
 
 -- in the end all have joined
-pub all_joined : (terms : Terms) (first boxes : List (List Change)) (old now : Stock) (r : ℕ)
+pub all_joined : (terms : Terms) (first boxes : List (List Change)) (old now : Frontier) (r : ℕ)
     → length old.ranks ≤ r → Joining terms first boxes old now r
     → HaveJoinedRace terms first old now
 all_joined terms first boxes old now r end p = λ b entry is same.
-    ap (λ (rs : List ℕ). raced_by_all rs entry (with_stock b now))
+    ap (λ (rs : List ℕ). raced_by_all rs entry (with_frontier b now))
     (sym (idle_none old.ranks r end))
     ∙ p.joined b entry is same
 
 -- and each has taken one place
-pub as_many_spare : (terms : Terms) (first boxes : List (List Change)) (old now : Stock) (r : ℕ)
+pub as_many_spare : (terms : Terms) (first boxes : List (List Change)) (old now : Frontier) (r : ℕ)
     → length old.ranks ≤ r → Joining terms first boxes old now r
     → now.orders.spare + length (ranks_that is_idle old.ranks) ≡ old.orders.spare
 as_many_spare terms first boxes old now r end p = omega (

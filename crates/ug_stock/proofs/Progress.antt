@@ -14,8 +14,8 @@ use Rattle.ug_rules.proofs.WorkLemmas.{state_here, state_there}
 use Rattle.ug_rules.proofs.FirstLemmas.{idle_is}
 use Rattle.ug_rules.proofs.AssignedLemmas.{fewer_from}
 use Rattle.ug_stock.specs.declared.terms.Terms.{Terms}
-use Rattle.ug_stock.specs.declared.stock.Stock.{Stock}
-use Rattle.ug_stock.specs.Stocks.{AreTermsOf, with_stock}
+use Rattle.ug_stock.specs.declared.frontier.Frontier.{Frontier}
+use Rattle.ug_stock.specs.Frontiers.{AreTermsOf, with_frontier}
 use Rattle.ug_stock.specs.Assigning.{CanBeAssigned, HasAssignedAll, HasAssignedPart, IsAssigned, KeepsPlaces}
 
 -- none before r is idle
@@ -54,23 +54,23 @@ none_from k (s ∷ ss) (suc r) end none =
     ∙ none_from (k + 1) ss r (omega (arith, end)) (λ j lt. none (suc j) (omega (arith, lt)))
 
 -- how many assignments can be made
-abbrev pub left_of : Stock → ℕ
+abbrev pub left_of : Frontier → ℕ
 left_of s =
     min (length (ranks_that is_idle s.ranks)) (min (length s.pool.entries) (2 ^ 64 - 1 - s.last))
 
 -- this many were made, and of the ranks before r none can be given more
-pub record Progress (terms : Terms) (old now : Stock) (steps r : ℕ) : Type 0 where
+pub record Progress (terms : Terms) (old now : Frontier) (steps r : ℕ) : Type 0 where
   pub done : (b : BookState) → AreTermsOf b terms → (m : ℕ)
-      → assigned_times (steps + m) (with_stock b old) ≡ assigned_times m (with_stock b now)
+      → assigned_times (steps + m) (with_frontier b old) ≡ assigned_times m (with_frontier b now)
   pub left : steps + left_of now ≡ left_of old
   pub passed : 0 < length now.pool.entries → now.last < 2 ^ 64 - 1 → NoneIdleBefore r now.ranks
   pub wide : length now.ranks ≡ length old.ranks
   pub few : steps ≤ r
   pub places : KeepsPlaces old now
 
-pub no_progress : (terms : Terms) (old : Stock) → Progress terms old old 0 0
+pub no_progress : (terms : Terms) (old : Frontier) → Progress terms old old 0 0
 no_progress terms old = record {
-  done = λ b t m. ap (λ (n : ℕ). assigned_times n (with_stock b old)) (none m);
+  done = λ b t m. ap (λ (n : ℕ). assigned_times n (with_frontier b old)) (none m);
   left = omega arith;
   passed = λ some number j lt. absurd (omega (arith, lt));
   wide = refl;
@@ -82,7 +82,7 @@ no_progress terms old = record {
     none m = omega arith
 
 -- a rank that cannot be given one is passed
-pub one_passed : (terms : Terms) (old now : Stock) (steps r : ℕ)
+pub one_passed : (terms : Terms) (old now : Frontier) (steps r : ℕ)
     → (CanBeAssigned r now.ranks now.pool.entries now.last → ⊥)
     → Progress terms old now steps r → Progress terms old now steps (r + 1)
 one_passed terms old now steps r cannot p = record {
@@ -108,11 +108,11 @@ one_passed terms old now steps r cannot p = record {
 }
 
 -- one that is given a node
-pub one_given : (terms : Terms) (old now new : Stock) (steps r : ℕ) → r < length now.ranks
+pub one_given : (terms : Terms) (old now new : Frontier) (steps r : ℕ) → r < length now.ranks
     → CanBeAssigned r now.ranks now.pool.entries now.last → IsAssigned terms r now new
     → Progress terms old now steps r → Progress terms old new (steps + 1) (r + 1)
 one_given terms old now new steps r there can t p = record {
-  done = λ b is m. ap (λ (n : ℕ). assigned_times n (with_stock b old)) (later m)
+  done = λ b is m. ap (λ (n : ℕ). assigned_times n (with_frontier b old)) (later m)
       ∙ (p.done b is (suc m) ∙ ap (λ (c : BookState). assigned_times m c) (next b is));
   left = omega (arith, p.left, one_less);
   passed = λ some number j lt. elim (cases_eq j r) [
@@ -139,13 +139,13 @@ one_given terms old now new steps r there can t p = record {
     less : (j : ℕ) → j < r + 1 → j ≢ r → j < r
     less j lt ne = elim (cases_lt j r) [ inl l ↦ l | inr ge ↦ absurd (ne (omega (arith, lt, ge))) ]
 
-    next : (b : BookState) → AreTermsOf b terms → assigned (with_stock b now) ≡ with_stock b new
+    next : (b : BookState) → AreTermsOf b terms → assigned (with_frontier b now) ≡ with_frontier b new
     next b is =
         let first = first_from 0 now.ranks r there can.idle (p.passed can.some can.number) in
         let ranks : ranks_that is_idle now.ranks ≡ r ∷ first.0 =
         first.1 ∙ ap (λ (n : ℕ). n ∷ first.0) (omega arith) in
-        ap (λ (qs : List ℕ). assigned_by qs now.pool.entries (with_stock b now)) ranks
-        ∙ (ap (λ (es : List Entry). assigned_by (r ∷ first.0) es (with_stock b now)) t.given_.first
+        ap (λ (qs : List ℕ). assigned_by qs now.pool.entries (with_frontier b now)) ranks
+        ∙ (ap (λ (es : List Entry). assigned_by (r ∷ first.0) es (with_frontier b now)) t.given_.first
         ∙ sym (t.given_.given_ b is))
 
     smaller : (i i2 p p2 q q2 : ℕ) → i + 1 ≡ i2 → p + 1 ≡ p2 → q + 1 ≡ q2
@@ -162,12 +162,12 @@ one_given terms old now new steps r there can t p = record {
         (omega (arith, t.given_.last, can.number))
 
 -- if some rank can still be given a node, not all were
-pub part_assigned : (terms : Terms) (old now : Stock) (steps r : ℕ) → r < length now.ranks
+pub part_assigned : (terms : Terms) (old now : Frontier) (steps r : ℕ) → r < length now.ranks
     → CanBeAssigned r now.ranks now.pool.entries now.last → Progress terms old now steps r
     → HasAssignedPart terms old now steps
 part_assigned terms old now steps r there can p = λ b is. record {
   count = omega (arith, p.left, some);
-  given_ = sym (p.done b is 0) ∙ ap (λ (n : ℕ). assigned_times n (with_stock b old)) none;
+  given_ = sym (p.done b is 0) ∙ ap (λ (n : ℕ). assigned_times n (with_frontier b old)) none;
 }
   where
     none : steps + 0 ≡ steps
@@ -182,11 +182,11 @@ part_assigned terms old now steps r there can p = λ b is. record {
     some = omega (arith, idle_some, can.some, can.number)
 
 -- and where the ranks are passed, all were
-pub all_assigned : (terms : Terms) (old now : Stock) (steps r : ℕ) → length old.ranks ≤ r
+pub all_assigned : (terms : Terms) (old now : Frontier) (steps r : ℕ) → length old.ranks ≤ r
     → Progress terms old now steps r → HasAssignedAll terms old now steps
 all_assigned terms old now steps r end p = λ b is. record {
   count = omega (arith, p.left, none_left);
-  given_ = sym (p.done b is 0) ∙ ap (λ (n : ℕ). assigned_times n (with_stock b old)) none;
+  given_ = sym (p.done b is 0) ∙ ap (λ (n : ℕ). assigned_times n (with_frontier b old)) none;
 }
   where
     none : steps + 0 ≡ steps
@@ -205,12 +205,12 @@ all_assigned terms old now steps r end p = λ b is. record {
     ]
 
 -- if the pool is empty none is given
-pub none_assigned : (terms : Terms) (old : Stock) → length old.pool.entries ≡ 0
+pub none_assigned : (terms : Terms) (old : Frontier) → length old.pool.entries ≡ 0
     → HasAssignedAll terms old old 0
 none_assigned terms old empty = λ b is. record {
   count = omega (arith, empty);
   given_ = refl;
 }
 
-pub nothing_moved : (old : Stock) → KeepsPlaces old old
+pub nothing_moved : (old : Frontier) → KeepsPlaces old old
 nothing_moved old = record { raced = refl; pool = omega arith; orders = λ h. h }

@@ -9,8 +9,8 @@ use Rattle.ug_ranks.specs.States.{state_at}
 use Rattle.ug_rules.specs.State.{BookState, nodes_of}
 use Rattle.ug_rules.specs.Deciding.{assigned_times, assignments, given_to}
 use Rattle.ug_stock.specs.declared.terms.Terms.{Terms}
-use Rattle.ug_stock.specs.declared.stock.Stock.{Stock}
-use Rattle.ug_stock.specs.Stocks.{AreTermsOf, with_stock}
+use Rattle.ug_stock.specs.declared.frontier.Frontier.{Frontier}
+use Rattle.ug_stock.specs.Frontiers.{AreTermsOf, with_frontier}
 
 -- the first entry left the pool, and its place is spare
 pub record IsTakenOut (old new : Pooled) (entry : Entry) : Type 0 where
@@ -18,7 +18,7 @@ pub record IsTakenOut (old new : Pooled) (entry : Entry) : Type 0 where
   pub spare : new.spare ≡ old.spare + 1
 
 -- the first entry of the pool was given to the rank
-pub record IsGivenFirst (terms : Terms) (r : ℕ) (old new : Stock) : Type 0 where
+pub record IsGivenFirst (terms : Terms) (r : ℕ) (old new : Frontier) : Type 0 where
   pub entry : Entry
   pub first : old.pool.entries ≡ entry ∷ new.pool.entries
   pub work : Work
@@ -26,16 +26,16 @@ pub record IsGivenFirst (terms : Terms) (r : ℕ) (old new : Stock) : Type 0 whe
   pub last : new.last ≡ old.last + 1
   pub raced : new.raced ≡ old.raced
   pub given_ : (b : BookState) → AreTermsOf b terms
-      → with_stock b new ≡ given_to r entry new.pool.entries (with_stock b old)
+      → with_frontier b new ≡ given_to r entry new.pool.entries (with_frontier b old)
 
 -- the entry's place in the pool is spare, and one rank more works, whose order took a place
-pub record IsPlaced (old new : Stock) : Type 0 where
+pub record IsPlaced (old new : Frontier) : Type 0 where
   pub pool : new.pool.spare ≡ old.pool.spare + 1
   pub working : length (nodes_of new.ranks) ≡ length (nodes_of old.ranks) + 1
   pub orders : new.orders.spare + 1 ≡ old.orders.spare
 
 -- so it was, and each rank that works has a place for its Stop
-pub record IsAssigned (terms : Terms) (r : ℕ) (old new : Stock) : Type 0 where
+pub record IsAssigned (terms : Terms) (r : ℕ) (old new : Frontier) : Type 0 where
   pub given_ : IsGivenFirst terms r old new
   pub pool : new.pool.spare ≡ old.pool.spare + 1
   pub working : length (nodes_of new.ranks) ≡ length (nodes_of old.ranks) + 1
@@ -59,20 +59,20 @@ pub record IsPartAssigned (steps : ℕ) (old new : BookState) : Type 0 where
   pub given_ : new ≡ assigned_times steps old
 
 -- so it is of whatever book has these parts and terms
-abbrev pub HasAssignedAll : Terms → Stock → Stock → ℕ → Type 0
+abbrev pub HasAssignedAll : Terms → Frontier → Frontier → ℕ → Type 0
 HasAssignedAll terms old new steps =
     (b : BookState) → AreTermsOf b terms
-    → IsAllAssigned steps (with_stock b old) (with_stock b new)
+    → IsAllAssigned steps (with_frontier b old) (with_frontier b new)
 
 -- and so is this
-abbrev pub HasAssignedPart : Terms → Stock → Stock → ℕ → Type 0
+abbrev pub HasAssignedPart : Terms → Frontier → Frontier → ℕ → Type 0
 HasAssignedPart terms old new steps =
     (b : BookState) → AreTermsOf b terms
-    → IsPartAssigned steps (with_stock b old) (with_stock b new)
+    → IsPartAssigned steps (with_frontier b old) (with_frontier b new)
 
 -- as many places of the pool are spare beyond the nodes that ranks work on, and the node that is
 -- raced stays
-pub record KeepsPlaces (old new : Stock) : Type 0 where
+pub record KeepsPlaces (old new : Frontier) : Type 0 where
   pub raced : new.raced ≡ old.raced
   pub pool : new.pool.spare + length (nodes_of old.ranks)
       ≡ old.pool.spare + length (nodes_of new.ranks)

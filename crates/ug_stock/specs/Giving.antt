@@ -3,8 +3,8 @@ use Rattle.std.specs.Prelude.{◌≡◌, ℕ, ◌<◌}
 use Rattle.ug_rules.specs.State.{BookState}
 use Rattle.ug_rules.specs.Deciding.{given, handouts}
 use Rattle.ug_stock.specs.declared.terms.Terms.{Terms}
-use Rattle.ug_stock.specs.declared.stock.Stock.{Stock}
-use Rattle.ug_stock.specs.Stocks.{AreTermsOf, with_stock}
+use Rattle.ug_stock.specs.declared.frontier.Frontier.{Frontier}
+use Rattle.ug_stock.specs.Frontiers.{AreTermsOf, with_frontier}
 
 -- all steps of a book were made, and this is their number
 pub record IsAllGiven (steps : ℕ) (old new : BookState) : Type 0 where
@@ -17,11 +17,11 @@ pub record IsPartGiven (steps : ℕ) (old new : BookState) : Type 0 where
   pub given_ : new ≡ given steps old
 
 -- so it is whatever else the book has, if these are its terms
-abbrev pub HasGivenAll : Terms → Stock → Stock → ℕ → Type 0
+abbrev pub HasGivenAll : Terms → Frontier → Frontier → ℕ → Type 0
 HasGivenAll terms old new steps =
-    (b : BookState) → AreTermsOf b terms → IsAllGiven steps (with_stock b old) (with_stock b new)
+    (b : BookState) → AreTermsOf b terms → IsAllGiven steps (with_frontier b old) (with_frontier b new)
 
 -- and so is this
-abbrev pub HasGivenPart : Terms → Stock → Stock → ℕ → Type 0
+abbrev pub HasGivenPart : Terms → Frontier → Frontier → ℕ → Type 0
 HasGivenPart terms old new steps =
-    (b : BookState) → AreTermsOf b terms → IsPartGiven steps (with_stock b old) (with_stock b new)
+    (b : BookState) → AreTermsOf b terms → IsPartGiven steps (with_frontier b old) (with_frontier b new)

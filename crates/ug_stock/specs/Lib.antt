@@ -9,6 +9,6 @@ pub mod Racers
 pub mod Races
 pub mod Racing
 pub mod Runs
-pub mod Stocks
+pub mod Frontiers
 pub mod Telling
 pub mod Turns

@@ -2,23 +2,23 @@ ghost use Rattle.std.specs.Prelude.{◌≡◌, ◌<◌, ◌≤◌, ◌+◌, ◌+
 ghost use Rattle.ug_ranks.specs.States.{state_at};
 ghost use Rattle.ug_rules.specs.State.{BookState};
 ghost use Rattle.ug_rules.specs.Deciding.{announced_as, announcement, announcements, same_cutoff};
-ghost use Rattle.ug_stock.specs.Stocks.{HasRoom, OnlyTells, with_stock};
+ghost use Rattle.ug_stock.specs.Frontiers.{HasRoom, OnlyTells, with_frontier};
 
+use crate::frontier::Frontier;
 use crate::notice_places::places;
 use crate::queue::Queue;
-use crate::stock::Stock;
 use std::alloc::AllocError;
 use ug_frames::Order;
 use ug_ranks::Ranks;
 use ug_rules::Told;
 
-impl Stock {
+impl Frontier {
     /// Queues a new cutoff for each rank that has joined, the lowest first, if it is not the one
     /// announced last; then it is the one announced last. After an error nothing has changed.
     pub fn announce(&mut self, cutoff: Option<i128>) -> Result<(), AllocError>
         requires { HasRoom self.old }
-        ensures ok { OnOk result ((b : BookState) → with_stock b self.new
-            ≡ announced_as cutoff (with_stock b self.old)) }
+        ensures ok { OnOk result ((b : BookState) → with_frontier b self.new
+            ≡ announced_as cutoff (with_frontier b self.old)) }
         ensures err { OnErr result (self.new ≡ self.old) }
         ensures only { OnlyTells self.old self.new }
         ensures room { HasRoom self.new }

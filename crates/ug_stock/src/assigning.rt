@@ -3,7 +3,7 @@ ghost use Rattle.ug_pool.specs.Pools.{entry_at};
 ghost use Rattle.ug_stock.specs.Assigning.{CanBeAssigned, HasAssignedAll, HasAssignedPart, IsAssigned, IsGivenFirst, IsPlaced, KeepsPlaces};
 
 use crate::firsts::{first_changes, take_first};
-use crate::stock::Stock;
+use crate::frontier::Frontier;
 use crate::telling::node_order;
 use crate::terms::{Stopped, Terms};
 use std::alloc::AllocError;
@@ -12,7 +12,7 @@ use ug_nodes::Changes;
 use ug_pool::OpenNodes;
 use ug_ranks::Assignment;
 
-impl Stock {
+impl Frontier {
     /// Assigns the first node of the pool to the lowest idle rank, while there are a rank, a node
     /// and a ticket. Returns how often. Fails if memory runs out, with the number of assignments
     /// that stand.

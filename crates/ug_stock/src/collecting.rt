@@ -2,19 +2,19 @@ ghost use Rattle.std.specs.Prelude.{◌≡◌, ◌↔◌, ◌<◌, ◌≤◌, Is
 ghost use Rattle.ug_rules.specs.State.{BookState};
 ghost use Rattle.ug_rules.specs.Deciding.{IsCollected, collected};
 ghost use Rattle.ug_stock.specs.Books.{AreAtWork, CanBeTold, StayAtWork, with_told};
-ghost use Rattle.ug_stock.specs.Stocks.{HasRoom, with_stock};
+ghost use Rattle.ug_stock.specs.Frontiers.{HasRoom, with_frontier};
 
 use crate::asking::{ask, ask_no_more};
+use crate::frontier::Frontier;
 use crate::members::members_of;
 use crate::queue::Queue;
-use crate::stock::Stock;
 use crate::wanting::wanted;
 use std::alloc::{AllocError, Global};
 use ug_pool::OpenNodes;
 use ug_ranks::Ranks;
 use ug_rules::Wanted;
 
-impl Stock {
+impl Frontier {
     /// Asks one active rank for open nodes if the pool has fewer than `low`: as many as bring it to
     /// `high`. If it has `high`, queues a CollectOut for the ranks that were asked. After an error
     /// nothing has changed.
@@ -22,7 +22,7 @@ impl Stock {
         requires marks { low ≤ high }
         requires room { HasRoom self.old }
         ensures ok { OnOk result ((b : BookState) → b.settings.low ≡ low → b.settings.high ≡ high
-            → IsCollected (with_stock b self.old) (with_stock b self.new)) }
+            → IsCollected (with_frontier b self.old) (with_frontier b self.new)) }
         ensures err { OnErr result (self.new ≡ self.old) }
         ensures room { HasRoom self.new }
     {

@@ -2,18 +2,18 @@ ghost use Rattle.std.specs.Prelude.{◌≡◌, ◌<◌, ◌≤◌, ◌+◌, ◌+
 ghost use Rattle.ug_pool.specs.Pools.{with_entry, without_below};
 ghost use Rattle.ug_rules.specs.State.{raced_node};
 ghost use Rattle.ug_rules.specs.Deaths.{called_off, stops_below};
-ghost use Rattle.ug_stock.specs.Stocks.{HasDied, HasLost, HasRoom};
-ghost use Rattle.ug_stock.specs.declared.stock.Stock.{Stock};
+ghost use Rattle.ug_stock.specs.Frontiers.{HasDied, HasLost, HasRoom};
+ghost use Rattle.ug_stock.specs.declared.frontier.Frontier.{Frontier};
 
 use crate::calling::call_off;
+use crate::frontier::Frontier;
 use crate::queue::Queue;
 use crate::racer_left::has_racer;
-use crate::stock::Stock;
 use ug_nodes::Node;
 use ug_pool::{Entry, OpenNodes, Pool};
 use ug_ranks::Ranks;
 
-impl Stock {
+impl Frontier {
     /// Loses a rank. If it is active, its node takes in what is held below: these nodes are
     /// dropped, the ranks that work on them are idle and sent a Stop, the lowest first, and its
     /// node returns to the pool. If it is the last racer, the raced node returns to the pool.
@@ -63,9 +63,9 @@ fn take_in(ranks: &mut Ranks, pool: &mut Pool, orders: &mut Queue, node: Node, f
 // The raced node is back in the pool, if there is one and no rank races.
 fn lose_race(ranks: &Ranks, pool: &mut Pool, raced: &mut Option<Entry>)
     requires { length (raced_node raced.old) ≤ pool.old.spare }
-    ensures lost { (stock : Stock) → HasLost
-        (record stock { pool = pool.old; ranks = ranks.now; raced = raced.old })
-        (record stock { pool = pool.new; ranks = ranks.now; raced = raced.new }) }
+    ensures lost { (frontier : Frontier) → HasLost
+        (record frontier { pool = pool.old; ranks = ranks.now; raced = raced.old })
+        (record frontier { pool = pool.new; ranks = ranks.now; raced = raced.new }) }
     ensures room { pool.new.spare + length (raced_node raced.old)
         ≡ pool.old.spare + length (raced_node raced.new) }
 {

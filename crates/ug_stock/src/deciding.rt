@@ -1,15 +1,15 @@
 ghost use Rattle.std.specs.Prelude.{◌≡◌, ◌<◌, ◌≤◌, ◌+◌, ◌^◌, IfErr, OnOk};
 ghost use Rattle.ug_rules.specs.Deciding.{below_cutoff};
 ghost use Rattle.ug_stock.specs.Decisions.{CanDecide, HasDecided, HasStood};
-ghost use Rattle.ug_stock.specs.Stocks.{HasRoom};
+ghost use Rattle.ug_stock.specs.Frontiers.{HasRoom};
 
+use crate::frontier::Frontier;
 use crate::run::Run;
-use crate::stock::Stock;
 use crate::terms::Terms;
 use crate::unfinished::Unfinished;
 use ug_pool::{OpenNodes, Pool};
 
-impl Stock {
+impl Frontier {
     /// Makes the five parts of a decision under this cutoff, in order.
     pub fn decide(&mut self, run: &Run, cutoff: Option<i128>) -> Result<(), Unfinished>
         requires can { CanDecide run.now self.old }

@@ -1,13 +1,13 @@
 ghost use Rattle.std.specs.Prelude.{IfErr, IfOk};
 ghost use Rattle.ug_stock.specs.Giving.{HasGivenAll, HasGivenPart};
-ghost use Rattle.ug_stock.specs.Stocks.{HasRoom};
+ghost use Rattle.ug_stock.specs.Frontiers.{HasRoom};
 
-use crate::stock::Stock;
+use crate::frontier::Frontier;
 use crate::terms::{Stopped, Terms};
 use crate::turns::Turn;
 use std::alloc::Global;
 
-impl Stock {
+impl Frontier {
     /// Assigns what can be assigned. If a race is due, it begins, which is one step; while one is
     /// awaited, nothing is assigned; otherwise the first node of the pool goes to the lowest idle
     /// rank, while there are a rank, a node and a ticket, and each time is a step.

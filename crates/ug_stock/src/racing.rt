@@ -4,17 +4,17 @@ ghost use Rattle.ug_ranks.specs.declared.state.State.TheVariants.{Idle};
 ghost use Rattle.ug_ranks.specs.Looks.{is_idle};
 ghost use Rattle.ug_rules.specs.Ranks.{ranks_that};
 ghost use Rattle.ug_stock.specs.Racing.{HasBegun, HasTakenPart, HaveTakenPart};
-ghost use Rattle.ug_stock.specs.Stocks.{HasRoom};
+ghost use Rattle.ug_stock.specs.Frontiers.{HasRoom};
 
 use crate::counting::count;
 use crate::firsts::{copies, take_first};
-use crate::stock::Stock;
+use crate::frontier::Frontier;
 use crate::telling::{race_order, racer_params};
 use crate::terms::Terms;
 use std::alloc::{AllocError, Global};
 use ug_nodes::Changes;
 
-impl Stock {
+impl Frontier {
     /// The race for the pool's first node begins: all memory for it is taken first, so that it
     /// begins whole. After an error nothing has changed.
     pub fn begin_race(&mut self, alloc: Global, terms: Terms) -> Result<(), AllocError>

@@ -4,16 +4,16 @@ ghost use Rattle.ug_ranks.specs.States.{state_at};
 ghost use Rattle.ug_rules.specs.State.{BookState};
 ghost use Rattle.ug_rules.specs.Hearing.{handed_at};
 ghost use Rattle.ug_stock.specs.Hands.{CanBeTaken, IsHandTaken, IsLineOfNext, IsNothingTaken, IsWorking};
-ghost use Rattle.ug_stock.specs.Stocks.{HasRoom, with_stock};
+ghost use Rattle.ug_stock.specs.Frontiers.{HasRoom, with_frontier};
 
+use crate::frontier::Frontier;
 use crate::run::Run;
-use crate::stock::Stock;
 use std::alloc::{AllocError, Global};
 use ug_nodes::{Changes, Line, Name, Node, area_of};
 use ug_pool::{OpenNodes, Pool};
 use ug_ranks::{Ranks, State};
 
-impl Stock {
+impl Frontier {
     /// Takes a hand of a rank that works: a node with these changes is in the pool, with its floor,
     /// and its box is noted. The pool gets room for one node more than can be out: one of each
     /// rank, and one that is raced; so none need be counted. After an error nothing has changed.
@@ -21,10 +21,10 @@ impl Stock {
         requires hand { CanBeTaken run.now rank changes self.old.ranks }
         requires room { HasRoom self.old }
         ensures ok { OnOk result ((b : BookState) → b.problem ≡ run.now.problem
-            → with_stock b self.new
-            ≡ handed_at (state_at self.old.ranks rank) rank changes (with_stock b self.old)) }
+            → with_frontier b self.new
+            ≡ handed_at (state_at self.old.ranks rank) rank changes (with_frontier b self.old)) }
         ensures err { OnErr result ((b : BookState)
-            → with_stock b self.new ≡ with_stock b self.old) }
+            → with_frontier b self.new ≡ with_frontier b self.old) }
         ensures room { HasRoom self.new }
     {
         self.pool.reserve(self.ranks.as_slice().len() + 2)?;

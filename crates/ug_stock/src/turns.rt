@@ -4,7 +4,7 @@ ghost use Rattle.ug_stock.specs.Counting.{AreCounted};
 ghost use Rattle.ug_stock.specs.Turns.{HasTurn};
 
 use crate::counting::{Counts, count};
-use crate::stock::Stock;
+use crate::frontier::Frontier;
 use crate::terms::Terms;
 use ug_pool::{Entry, OpenNodes, Pool};
 
@@ -19,7 +19,7 @@ pub enum Turn {
     Nodes,
 }
 
-impl Stock {
+impl Frontier {
     /// Returns what may be assigned now.
     pub fn turn(&self, terms: Terms) -> Turn
         ensures turn { HasTurn terms self.now result }

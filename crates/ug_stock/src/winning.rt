@@ -3,17 +3,17 @@ ghost use Rattle.ug_ranks.specs.States.{state_at};
 ghost use Rattle.ug_rules.specs.State.{BookState};
 ghost use Rattle.ug_rules.specs.Deciding.{IsRaceEnded, loser_stops, race_won, winner_order};
 ghost use Rattle.ug_stock.specs.Races.{IsRaceOver, IsRacer, StandsAlone};
-ghost use Rattle.ug_stock.specs.Stocks.{HasRoom, with_stock};
+ghost use Rattle.ug_stock.specs.Frontiers.{HasRoom, with_frontier};
 
 use crate::ending::crown;
+use crate::frontier::Frontier;
 use crate::queue::Queue;
 use crate::reports::{racers_of, winner_of};
-use crate::stock::Stock;
 use std::alloc::{AllocError, Global};
 use ug_pool::Entry;
 use ug_ranks::Ranks;
 
-impl Stock {
+impl Frontier {
     /// Ends the race if each racer has reported and one of them has enough open nodes: the winner
     /// gets the raced node and is sent a Winner; the other racers are sent a Stop and are idle.
     /// Otherwise nothing changes; without a raced node no memory is taken. After an error nothing
@@ -22,7 +22,7 @@ impl Stock {
         requires alone { StandsAlone self.old.ranks self.old.raced }
         requires room { HasRoom self.old }
         ensures ok { OnOk result ((b : BookState) → b.settings.winner ≡ enough
-            → IsRaceEnded (with_stock b self.old) (with_stock b self.new)) }
+            → IsRaceEnded (with_frontier b self.old) (with_frontier b self.new)) }
         ensures err { OnErr result (self.new ≡ self.old) }
         ensures none { self.old.raced ≡ None → IsOk result }
         ensures room { HasRoom self.new }

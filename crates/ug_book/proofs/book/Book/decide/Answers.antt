@@ -8,14 +8,14 @@ use Rattle.ug_rules.proofs.SettledLemmas.{decided_settled}
 use Rattle.ug_book.specs.Views.{IsSameRun, state_of}
 use Rattle.ug_book.proofs.Runs.{same_run}
 use Rattle.ug_stock.specs.Decisions.{IsUnder}
-use Rattle.ug_stock.specs.Stocks.{with_stock}
+use Rattle.ug_stock.specs.Frontiers.{with_frontier}
 use Rattle.ug_stock.proofs.Decisions.{decision_keeps}
 use Rattle.ug_book.proofs.book.Book.decide.Goals as goal
 
 pub invariant_of-self : goal.invariant_of-self
 invariant_of-self c =
     let b : BookState = state_of c.self.inside in
-    let new : BookState = with_stock b c.decide.new.self in
+    let new : BookState = with_frontier b c.decide.new.self in
     let under : IsUnder b c.self.inside.run c.self.inside.incumbent.cutoff =
     record { run = refl; settings = refl; cutoff = sym c.self.invariant.cutoff } in
     let decided : OnOk c.decide.result (IsDecided b new) =
@@ -34,7 +34,7 @@ invariant_of-self c =
 pub returns-clause-decided : goal.returns-clause-decided
 returns-clause-decided c =
     let b : BookState = state_of c.self.inside in
-    let new : BookState = with_stock b c.decide.new.self in
+    let new : BookState = with_frontier b c.decide.new.self in
     let under : IsUnder b c.self.inside.run c.self.inside.incumbent.cutoff =
     record { run = refl; settings = refl; cutoff = sym c.self.invariant.cutoff } in
     let decided : OnOk c.decide.result (IsDecided b new) =
@@ -44,7 +44,7 @@ returns-clause-decided c =
 pub returns-clause-settled : goal.returns-clause-settled
 returns-clause-settled c =
     let b : BookState = state_of c.self.inside in
-    let new : BookState = with_stock b c.decide.new.self in
+    let new : BookState = with_frontier b c.decide.new.self in
     let under : IsUnder b c.self.inside.run c.self.inside.incumbent.cutoff =
     record { run = refl; settings = refl; cutoff = sym c.self.invariant.cutoff } in
     let decided : OnOk c.decide.result (IsDecided b new) =
@@ -54,7 +54,7 @@ returns-clause-settled c =
 pub returns-clause-stands : goal.returns-clause-stands
 returns-clause-stands c =
     let b : BookState = state_of c.self.inside in
-    let new : BookState = with_stock b c.decide.new.self in
+    let new : BookState = with_frontier b c.decide.new.self in
     let under : IsUnder b c.self.inside.run c.self.inside.incumbent.cutoff =
     record { run = refl; settings = refl; cutoff = sym c.self.invariant.cutoff } in
     let stood : IfErr c.decide.result (λ e. Stands e.stood b new) =
@@ -65,7 +65,7 @@ returns-clause-stands c =
 pub returns-clause-sound : goal.returns-clause-sound
 returns-clause-sound c = λ s.
     let b : BookState = state_of c.self.inside in
-    let new : BookState = with_stock b c.decide.new.self in
+    let new : BookState = with_frontier b c.decide.new.self in
     let under : IsUnder b c.self.inside.run c.self.inside.incumbent.cutoff =
     record { run = refl; settings = refl; cutoff = sym c.self.invariant.cutoff } in
     let decided : OnOk c.decide.result (IsDecided b new) =
@@ -78,7 +78,7 @@ returns-clause-sound c = λ s.
 pub returns-clause-same : goal.returns-clause-same
 returns-clause-same c =
     let b : BookState = state_of c.self.inside in
-    let new : BookState = with_stock b c.decide.new.self in
+    let new : BookState = with_frontier b c.decide.new.self in
     let under : IsUnder b c.self.inside.run c.self.inside.incumbent.cutoff =
     record { run = refl; settings = refl; cutoff = sym c.self.invariant.cutoff } in
     let decided : OnOk c.decide.result (IsDecided b new) =

@@ -28,7 +28,7 @@ invariant_of-self c =
     let there = subst (λ (k : BookState). c.args.rank < length k.ranks) (sym c.self.view_is)
     c.requires.there in
     let taken : BookState = with_held b c.take_report-answer.new.incumbent.best
-    c.take_report-answer.new.stock in
+    c.take_report-answer.new.frontier in
     let told = c.take_report-answer.ensures.answered b (record { problem = refl; settings = refl }) in
     let is = heard_so b _ _ c.take_report-answer.result c.args.rank c.args.report
     c.heard_after-self-inside.result told.taken (c.end_by.ensures.ended taken)
@@ -54,7 +54,7 @@ pub returns-clause-done : goal.returns-clause-done
 returns-clause-done c =
     let b : BookState = state_of c.self.inside in
     let taken : BookState = with_held b c.take_report-answer.new.incumbent.best
-    c.take_report-answer.new.stock in
+    c.take_report-answer.new.frontier in
     let told = c.take_report-answer.ensures.answered b (record { problem = refl; settings = refl }) in
     heard_so b taken _ c.take_report-answer.result c.args.rank c.args.report
     c.heard_after-self-inside.result told.taken (c.end_by.ensures.ended taken)
@@ -69,7 +69,7 @@ returns-clause-sound c = λ true_ sound.
     let there = subst (λ (k : BookState). c.args.rank < length k.ranks) (sym c.self.view_is)
     c.requires.there in
     let taken : BookState = with_held b c.take_report-answer.new.incumbent.best
-    c.take_report-answer.new.stock in
+    c.take_report-answer.new.frontier in
     let told = c.take_report-answer.ensures.answered b (record { problem = refl; settings = refl }) in
     let is = heard_so b _ _ c.take_report-answer.result c.args.rank c.args.report
     c.heard_after-self-inside.result told.taken (c.end_by.ensures.ended taken)
@@ -85,18 +85,18 @@ returns-clause-same c =
     let there = subst (λ (k : BookState). c.args.rank < length k.ranks) (sym c.self.view_is)
     c.requires.there in
     let taken : BookState = with_held b c.take_report-answer.new.incumbent.best
-    c.take_report-answer.new.stock in
+    c.take_report-answer.new.frontier in
     let told = c.take_report-answer.ensures.answered b (record { problem = refl; settings = refl }) in
     let is = heard_so b _ _ c.take_report-answer.result c.args.rank c.args.report
     c.heard_after-self-inside.result told.taken (c.end_by.ensures.ended taken)
     c.heard_after-self-inside.ensures in
     let new : BookState = record taken {
-      pool = c.end_by.new.stock.pool.entries;
-      ranks = c.end_by.new.stock.ranks;
-      raced = c.end_by.new.stock.raced;
-      last = c.end_by.new.stock.last;
-      orders = c.end_by.new.stock.orders.orders;
-      announced = c.end_by.new.stock.announced;
+      pool = c.end_by.new.frontier.pool.entries;
+      ranks = c.end_by.new.frontier.ranks;
+      raced = c.end_by.new.frontier.raced;
+      last = c.end_by.new.frontier.last;
+      orders = c.end_by.new.frontier.orders.orders;
+      announced = c.end_by.new.frontier.announced;
       heard = c.heard_after-self-inside.result;
     } in
     subst (λ (k : BookState). IsSameRun k new) c.self.view_is

@@ -14,14 +14,14 @@ pub invariant_of-result : goal.invariant_of-result
 invariant_of-result c =
     let o = c.args.opening.now in
     let run = c.in_ok-run.run' in
-    let stock = c.in-Ok-first_stock.stock in
+    let frontier = c.in-Ok-first_frontier.frontier in
     let r = c.in_ok-run.ensures in
-    let f = c.in-Ok-first_stock.ensures in
+    let f = c.in-Ok-first_frontier.ensures in
     let own : c.new-incumbent.result.best ≡ o.best =
     c.new-incumbent.ensures.best ∙ (c.new.ensures ∙ (c.in-Ok.ensures ∙ c.as_ref.ensures.value)) in
     let is = started_is o.problem run.problem o.run run.number o.best c.new-incumbent.result.best o.boxes
-    o.settings run.settings stock.pool.entries stock.ranks stock.raced stock.last
-    stock.orders.orders stock.announced r.problem r.number r.settings own f.pool f.ranks f.raced
+    o.settings run.settings frontier.pool.entries frontier.ranks frontier.raced frontier.last
+    frontier.orders.orders frontier.announced r.problem r.number r.settings own f.pool f.ranks f.raced
     f.last f.orders (f.announced ∙ c.new-incumbent.ensures.cutoff) in
     let none = ap (λ (ss : List State). length (nodes_of ss)) f.ranks in
     let work = ap length (no_work run.settings.solvers) in
@@ -45,18 +45,18 @@ invariant_of-result c =
       };
     }
 
-pub returns-in-Ok-first_stock-clause-sound : goal.returns-in-Ok-first_stock-clause-sound
-returns-in-Ok-first_stock-clause-sound c =
+pub returns-in-Ok-first_frontier-clause-sound : goal.returns-in-Ok-first_frontier-clause-sound
+returns-in-Ok-first_frontier-clause-sound c =
     let o = c.args.opening.now in
     let run = c.in_ok-run.run' in
-    let stock = c.in-Ok-first_stock.stock in
+    let frontier = c.in-Ok-first_frontier.frontier in
     let r = c.in_ok-run.ensures in
-    let f = c.in-Ok-first_stock.ensures in
+    let f = c.in-Ok-first_frontier.ensures in
     let own : c.new-incumbent.result.best ≡ o.best =
     c.new-incumbent.ensures.best ∙ (c.new.ensures ∙ (c.in-Ok.ensures ∙ c.as_ref.ensures.value)) in
     let is = started_is o.problem run.problem o.run run.number o.best c.new-incumbent.result.best o.boxes
-    o.settings run.settings stock.pool.entries stock.ranks stock.raced stock.last
-    stock.orders.orders stock.announced r.problem r.number r.settings own f.pool f.ranks f.raced
+    o.settings run.settings frontier.pool.entries frontier.ranks frontier.raced frontier.last
+    frontier.orders.orders frontier.announced r.problem r.number r.settings own f.pool f.ranks f.raced
     f.last f.orders (f.announced ∙ c.new-incumbent.ensures.cutoff) in
     let both = start_is_sound o.problem o.run o.best o.boxes o.settings in
     (λ s. both.0 (subst IsSoundBook is s), λ covered. subst IsSoundBook (sym is) (both.1 covered))

@@ -6,14 +6,14 @@ use Rattle.ug_book.proofs.book.Book.next_order.Goals as goal
 
 pub invariant_of-self : goal.invariant_of-self
 invariant_of-self c =
-    let stock = c.self.inside.stock in
+    let frontier = c.self.inside.frontier in
     record {
-      book = told_book (state_of c.self.inside) stock.orders c.next.new.self c.next.result refl
+      book = told_book (state_of c.self.inside) frontier.orders c.next.new.self c.next.result refl
           c.next.ensures c.self.invariant.book;
       cutoff = c.self.invariant.cutoff;
       small = c.self.invariant.small;
       floor = c.self.invariant.floor;
-      room = told_room stock c.next.new.self c.next.result c.next.ensures c.self.invariant.room;
+      room = told_room frontier c.next.new.self c.next.result c.next.ensures c.self.invariant.room;
     }
 
 pub returns-clause-sound : goal.returns-clause-sound

@@ -4,9 +4,9 @@ use Rattle.ug_rules.specs.declared.member.Member.{Member}
 use Rattle.ug_rules.specs.Wants.{IsWanted}
 use Rattle.ug_stock.proofs.Counts.{members_work}
 use Rattle.ug_rules.specs.Ranks.{members_in}
-use Rattle.ug_stock.specs.Stocks.{with_stock}
+use Rattle.ug_stock.specs.Frontiers.{with_frontier}
 use Rattle.ug_stock.proofs.Wants.{can_be_told, wanted_so}
-use Rattle.ug_stock.proofs.stock.Stock.collect.Goals as goal
+use Rattle.ug_stock.proofs.frontier.Frontier.collect.Goals as goal
 
 pub tell-requires-clause-told : goal.tell-requires-clause-told
 tell-requires-clause-told c =
@@ -42,6 +42,6 @@ returns-clause-ok c =
       wanted = wanted_so c.len-len.result c.from.result c.from-2.result (length s.pool.entries)
           b.settings.low b.settings.high (members_in s.ranks) c.in_ok-demand.demand
           c.len-len.ensures.value (c.from.ensures ∙ sym low) (c.from-2.ensures ∙ sym high) wanted;
-      done = done (with_stock b s);
+      done = done (with_frontier b s);
     })
     c.tell.ensures.ok

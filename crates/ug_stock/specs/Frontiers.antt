@@ -2,36 +2,36 @@
 use Rattle.std.specs.Prelude.{◌≡◌, ℕ, ◌+◌, ◌≤◌, length}
 use Rattle.ug_rules.specs.State.{BookState, cutoff_of_best, nodes_of, raced_node}
 use Rattle.ug_rules.specs.Deaths.{killed, race_lost}
-use Rattle.ug_stock.specs.declared.stock.Stock.{Stock}
+use Rattle.ug_stock.specs.declared.frontier.Frontier.{Frontier}
 use Rattle.ug_stock.specs.declared.terms.Terms.{Terms}
 
 -- the book with this stock; its problem, its run, its settings and its incumbent are the same
-abbrev pub with_stock : BookState → Stock → BookState
-with_stock b stock = record b {
-  pool = stock.pool.entries;
-  ranks = stock.ranks;
-  raced = stock.raced;
-  last = stock.last;
-  orders = stock.orders.orders;
-  announced = stock.announced;
+abbrev pub with_frontier : BookState → Frontier → BookState
+with_frontier b frontier = record b {
+  pool = frontier.pool.entries;
+  ranks = frontier.ranks;
+  raced = frontier.raced;
+  last = frontier.last;
+  orders = frontier.orders.orders;
+  announced = frontier.announced;
 }
 
 -- each node that is out of the pool has a spare place there, and each rank that works one for its
 -- Stop
-pub record HasRoom (stock : Stock) : Type 0 where
-  pub pool : length (nodes_of stock.ranks) + length (raced_node stock.raced) ≤ stock.pool.spare
-  pub orders : length (nodes_of stock.ranks) ≤ stock.orders.spare
+pub record HasRoom (frontier : Frontier) : Type 0 where
+  pub pool : length (nodes_of frontier.ranks) + length (raced_node frontier.raced) ≤ frontier.pool.spare
+  pub orders : length (nodes_of frontier.ranks) ≤ frontier.orders.spare
 
 -- whatever else the book has, a rank of it was lost
-abbrev pub HasDied : ℕ → Stock → Stock → Type 0
-HasDied rank old new = (b : BookState) → with_stock b new ≡ killed rank (with_stock b old)
+abbrev pub HasDied : ℕ → Frontier → Frontier → Type 0
+HasDied rank old new = (b : BookState) → with_frontier b new ≡ killed rank (with_frontier b old)
 
 -- whatever else it has, its race is lost where no racer is left
-abbrev pub HasLost : Stock → Stock → Type 0
-HasLost old new = (b : BookState) → with_stock b new ≡ race_lost (with_stock b old)
+abbrev pub HasLost : Frontier → Frontier → Type 0
+HasLost old new = (b : BookState) → with_frontier b new ≡ race_lost (with_frontier b old)
 
 -- nothing but the orders and what was announced has changed
-pub record OnlyTells (old new : Stock) : Type 0 where
+pub record OnlyTells (old new : Frontier) : Type 0 where
   pub pool : new.pool ≡ old.pool
   pub ranks : new.ranks ≡ old.ranks
   pub raced : new.raced ≡ old.raced

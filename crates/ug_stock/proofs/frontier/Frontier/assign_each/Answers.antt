@@ -1,10 +1,10 @@
 use Rattle.std.proofs.Common.{ap, sym, subst, refl, length, List, arith}
 use Rattle.std.proofs.lemmas.Bool.{false≢true}
 use Rattle.ug_ranks.specs.declared.state.State.{State}
-use Rattle.ug_stock.specs.declared.stock.Stock.{Stock}
+use Rattle.ug_stock.specs.declared.frontier.Frontier.{Frontier}
 use Rattle.ug_stock.specs.Assigning.{HasAssignedPart, KeepsPlaces}
 use Rattle.ug_stock.proofs.Progress.{all_assigned, one_given, one_passed, part_assigned}
-use Rattle.ug_stock.proofs.stock.Stock.assign_each.Goals as goal
+use Rattle.ug_stock.proofs.frontier.Frontier.assign_each.Goals as goal
 
 pub can_be_assigned-requires : goal.can_be_assigned-requires
 can_be_assigned-requires c = omega (
@@ -29,7 +29,7 @@ returns-in_default-clause-err c =
     let old = c.args.self.now in
     let now = c.loop-rank.self in
     let p = c.loop-rank.invariant in
-    subst (λ (s : Stock). HasAssignedPart c.args.terms old s c.loop-rank.steps)
+    subst (λ (s : Frontier). HasAssignedPart c.args.terms old s c.loop-rank.steps)
     (sym c.in_default.ensures.err)
     (part_assigned c.args.terms old now c.loop-rank.steps c.loop-rank.rank
     (omega (
@@ -44,7 +44,7 @@ returns-in_default-clause-err c =
 pub returns-in_default-clause-places : goal.returns-in_default-clause-places
 returns-in_default-clause-places c =
     let old = c.args.self.now in
-    subst (λ (s : Stock). KeepsPlaces old s) (sym c.in_default.ensures.err)
+    subst (λ (s : Frontier). KeepsPlaces old s) (sym c.in_default.ensures.err)
     c.loop-rank.invariant.places
 
 pub overflow_add-steps : goal.overflow_add-steps

@@ -7,7 +7,7 @@ use Rattle.ug_rules.specs.Deciding.{racer_params}
 use Rattle.ug_rules.proofs.FirstLemmas.{idle_is}
 use Rattle.ug_stock.specs.Telling.{ticket_under}
 use Rattle.ug_stock.proofs.Joining.{all_joined, as_many_spare, box_left, one_joins, other_passed, place_left}
-use Rattle.ug_stock.proofs.stock.Stock.race_all.Goals as goal
+use Rattle.ug_stock.proofs.frontier.Frontier.race_all.Goals as goal
 
 pub state-requires : goal.state-requires
 state-requires c = omega (

@@ -1,15 +1,15 @@
 use Rattle.std.proofs.Common.{◌≡◌, ℕ, ◌<◌, ◌≤◌, List, subst, sym, ap, ◌∙◌, arith}
 use Rattle.std.specs.Prelude.{ℤ, Option}
 use Rattle.ug_pool.specs.declared.entry.Entry.{Entry}
-use Rattle.ug_stock.specs.declared.stock.Stock.{Stock}
+use Rattle.ug_stock.specs.declared.frontier.Frontier.{Frontier}
 use Rattle.ug_ranks.specs.declared.state.State.{State}
 use Rattle.ug_stock.specs.Races.{StandsAlone}
-use Rattle.ug_stock.specs.Stocks.{with_stock}
+use Rattle.ug_stock.specs.Frontiers.{with_frontier}
 use Rattle.ug_rules.specs.declared.settings.Settings.{Settings}
 use Rattle.ug_rules.specs.State.{BookState}
 use Rattle.ug_rules.specs.Deciding.{announced_as, below_cutoff, dropped, announced, IsRaceEnded}
 use Rattle.ug_stock.proofs.Decisions.{all_made, few_made, some_made}
-use Rattle.ug_stock.proofs.stock.Stock.decide.Goals as goal
+use Rattle.ug_stock.proofs.frontier.Frontier.decide.Goals as goal
 
 le_of : (n m : ℕ) → n ≡ m → n ≤ m
 le_of n m e = omega (arith, e)
@@ -32,24 +32,24 @@ end_race-requires-clause-alone c =
 
 pub returns-in_default-end_race-clause-stands : goal.returns-in_default-end_race-clause-stands
 returns-in_default-end_race-clause-stands c = λ b under.
-    let b0 : BookState = with_stock b c.args.self.now in
-    let b1 : BookState = with_stock b (record c.args.self.now { pool = c.drop_hopeless.new.pool }) in
-    let b2 : BookState = with_stock b c.announce.new.self in
+    let b0 : BookState = with_frontier b c.args.self.now in
+    let b1 : BookState = with_frontier b (record c.args.self.now { pool = c.drop_hopeless.new.pool }) in
+    let b2 : BookState = with_frontier b c.announce.new.self in
     let cut : b1 ≡ dropped b0 =
     ap (λ (es : List Entry). record b0 { pool = es }) c.drop_hopeless.ensures.entries
     ∙ ap (λ (k : Option ℤ). record b0 { pool = below_cutoff k b0.pool }) (sym under.cutoff) in
     let told : b2 ≡ announced b1 =
     c.in-Ok.ensures.ok b ∙ ap (λ (k : Option ℤ). announced_as k b1) (sym under.cutoff) in
-    ap (λ (s : Stock). with_stock b s) c.in_default-end_race.ensures.err
+    ap (λ (s : Frontier). with_frontier b s) c.in_default-end_race.ensures.err
     ∙ (told ∙ ap announced cut)
 
 pub returns-in_default-collect-clause-stands : goal.returns-in_default-collect-clause-stands
 returns-in_default-collect-clause-stands c = λ b under.
-    let b0 : BookState = with_stock b c.args.self.now in
-    let b1 : BookState = with_stock b (record c.args.self.now { pool = c.drop_hopeless.new.pool }) in
-    let b2 : BookState = with_stock b c.announce.new.self in
-    let b3 : BookState = with_stock b c.end_race.new.self in
-    let b4 : BookState = with_stock b c.give_out.new.self in
+    let b0 : BookState = with_frontier b c.args.self.now in
+    let b1 : BookState = with_frontier b (record c.args.self.now { pool = c.drop_hopeless.new.pool }) in
+    let b2 : BookState = with_frontier b c.announce.new.self in
+    let b3 : BookState = with_frontier b c.end_race.new.self in
+    let b4 : BookState = with_frontier b c.give_out.new.self in
     let cut : b1 ≡ dropped b0 =
     ap (λ (es : List Entry). record b0 { pool = es }) c.drop_hopeless.ensures.entries
     ∙ ap (λ (k : Option ℤ). record b0 { pool = below_cutoff k b0.pool }) (sym under.cutoff) in
@@ -66,16 +66,16 @@ returns-in_default-collect-clause-stands c = λ b under.
     let count = le_of c.in-Ok-give_out.given _ given_.count in
     let few = few_made b0 b1 b2 b3 cut told ended c.in-Ok-give_out.given count c.requires.can.few in
     some_made b0 b1 b2 b3 cut told ended c.in-Ok-give_out.given c.standing.result _ count
-    (ap (λ (s : Stock). with_stock b s) c.in_default-collect.ensures.err ∙ given_.given_)
+    (ap (λ (s : Frontier). with_frontier b s) c.in_default-collect.ensures.err ∙ given_.given_)
     (c.standing.ensures.value few)
 
 pub returns-in-Ok-collect-clause-decided : goal.returns-in-Ok-collect-clause-decided
 returns-in-Ok-collect-clause-decided c = λ b under.
-    let b0 : BookState = with_stock b c.args.self.now in
-    let b1 : BookState = with_stock b (record c.args.self.now { pool = c.drop_hopeless.new.pool }) in
-    let b2 : BookState = with_stock b c.announce.new.self in
-    let b3 : BookState = with_stock b c.end_race.new.self in
-    let b4 : BookState = with_stock b c.give_out.new.self in
+    let b0 : BookState = with_frontier b c.args.self.now in
+    let b1 : BookState = with_frontier b (record c.args.self.now { pool = c.drop_hopeless.new.pool }) in
+    let b2 : BookState = with_frontier b c.announce.new.self in
+    let b3 : BookState = with_frontier b c.end_race.new.self in
+    let b4 : BookState = with_frontier b c.give_out.new.self in
     let cut : b1 ≡ dropped b0 =
     ap (λ (es : List Entry). record b0 { pool = es }) c.drop_hopeless.ensures.entries
     ∙ ap (λ (k : Option ℤ). record b0 { pool = below_cutoff k b0.pool }) (sym under.cutoff) in
@@ -95,11 +95,11 @@ returns-in-Ok-collect-clause-decided c = λ b under.
 
 pub returns-in-Err-clause-stands : goal.returns-in-Err-clause-stands
 returns-in-Err-clause-stands c = λ b under.
-    let b0 : BookState = with_stock b c.args.self.now in
-    let b1 : BookState = with_stock b (record c.args.self.now { pool = c.drop_hopeless.new.pool }) in
-    let b2 : BookState = with_stock b c.announce.new.self in
-    let b3 : BookState = with_stock b c.end_race.new.self in
-    let b4 : BookState = with_stock b c.give_out.new.self in
+    let b0 : BookState = with_frontier b c.args.self.now in
+    let b1 : BookState = with_frontier b (record c.args.self.now { pool = c.drop_hopeless.new.pool }) in
+    let b2 : BookState = with_frontier b c.announce.new.self in
+    let b3 : BookState = with_frontier b c.end_race.new.self in
+    let b4 : BookState = with_frontier b c.give_out.new.self in
     let cut : b1 ≡ dropped b0 =
     ap (λ (es : List Entry). record b0 { pool = es }) c.drop_hopeless.ensures.entries
     ∙ ap (λ (k : Option ℤ). record b0 { pool = below_cutoff k b0.pool }) (sym under.cutoff) in

@@ -1,6 +1,6 @@
 use Rattle.std.proofs.lemmas.Result.{IfErr-weaker, IfOk-weaker}
 use Rattle.ug_stock.proofs.Turning.{nodes_all_given, nodes_part_given, none_given, race_all_given, race_not_given, room_kept}
-use Rattle.ug_stock.proofs.stock.Stock.give_out.Goals as goal
+use Rattle.ug_stock.proofs.frontier.Frontier.give_out.Goals as goal
 
 pub returns-in_default-clause-err : goal.returns-in_default-clause-err
 returns-in_default-clause-err c = race_not_given c.args.terms c.args.self.now

@@ -1,5 +1,5 @@
 use Rattle.ug_stock.proofs.Joining.{Joining}
-use Rattle.ug_stock.proofs.stock.Stock.race_all.Given as goal
+use Rattle.ug_stock.proofs.frontier.Frontier.race_all.Given as goal
 
 abbrev pub invariant-loop-rank : goal.invariant-loop-rank
 invariant-loop-rank l =

@@ -2,7 +2,7 @@ use Rattle.std.proofs.Common.{ap, of_z, to_z, arith}
 use mir.Syntax.{w128}
 use Rattle.ug_stock.specs.Queues.{Queued}
 use Rattle.ug_stock.proofs.Counts.{each_told}
-use Rattle.ug_stock.proofs.stock.Stock.announce.Goals as goal
+use Rattle.ug_stock.proofs.frontier.Frontier.announce.Goals as goal
 
 pub tell_joined-requires : goal.tell_joined-requires
 tell_joined-requires c = omega (

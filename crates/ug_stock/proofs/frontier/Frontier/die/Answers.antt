@@ -5,9 +5,9 @@ use Rattle.ug_rules.specs.State.{nodes_of}
 use Rattle.ug_ranks.specs.Looks.{is_racing}
 use Rattle.ug_rules.specs.Deaths.{race_lost}
 use Rattle.ug_rules.proofs.QueueLemmas.{stops_are_of_called_off}
-use Rattle.ug_stock.specs.Stocks.{with_stock}
+use Rattle.ug_stock.specs.Frontiers.{with_frontier}
 use Rattle.ug_stock.proofs.Rooms.{none_less, one_less, racer_dies}
-use Rattle.ug_stock.proofs.stock.Stock.die.Goals as goal
+use Rattle.ug_stock.proofs.frontier.Frontier.die.Goals as goal
 
 pub take_in-requires-clause-pool : goal.take_in-requires-clause-pool
 take_in-requires-clause-pool c = omega (
@@ -62,8 +62,8 @@ returns-then-races-clause-died c = λ b.
     let races = sym c.is_racing-races.ensures ∙ c.if-races.true in
     c.lose_race.ensures.lost old b
     ∙ (ap (λ (ss : List State). race_lost
-    (record (with_stock b old) { ranks = ss })) c.kill.ensures.states
-    ∙ sym (racer_dies (state_at c.args.self.now.ranks c.args.rank) c.args.rank (with_stock b old)
+    (record (with_frontier b old) { ranks = ss })) c.kill.ensures.states
+    ∙ sym (racer_dies (state_at c.args.self.now.ranks c.args.rank) c.args.rank (with_frontier b old)
     (ap is_racing (sym c.state.ensures) ∙ races)))
 
 pub returns-then-races-clause-room : goal.returns-then-races-clause-room

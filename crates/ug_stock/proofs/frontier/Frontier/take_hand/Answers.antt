@@ -4,7 +4,7 @@ use Rattle.ug_pool.specs.Pools.{Pooled}
 use Rattle.ug_ranks.specs.declared.state.State.{State}
 use Rattle.ug_stock.proofs.Works.{few_work}
 use Rattle.ug_stock.proofs.HandRooms.{few_raced, room_kept}
-use Rattle.ug_stock.proofs.stock.Stock.take_hand.Goals as goal
+use Rattle.ug_stock.proofs.frontier.Frontier.take_hand.Goals as goal
 
 pub returns-clause-room : goal.returns-clause-room
 returns-clause-room c =

@@ -6,18 +6,18 @@ use Rattle.ug_rules.specs.declared.contender.Contender.{Contender}
 use Rattle.ug_rules.specs.State.{raced_node}
 use Rattle.ug_rules.specs.Deciding.{race_won}
 use Rattle.ug_stock.specs.Races.{IsWonAmong}
-use Rattle.ug_stock.specs.Stocks.{with_stock}
+use Rattle.ug_stock.specs.Frontiers.{with_frontier}
 use Rattle.ug_stock.proofs.Won.{is_won, none_raced, none_won, none_works, one_each, one_raced, winner_there}
-use Rattle.ug_stock.proofs.stock.Stock.end_race.Goals as goal
+use Rattle.ug_stock.proofs.frontier.Frontier.end_race.Goals as goal
 
 pub returns-then-is_none-clause-ok : goal.returns-then-is_none-clause-ok
 returns-then-is_none-clause-ok c = λ b e.
-    none_raced (with_stock b c.args.self.now)
+    none_raced (with_frontier b c.args.self.now)
     c.requires.alone (c.is_none.ensures ∙ ap not c.if-is_none.true)
 
 pub returns-in_default-clause-ok : goal.returns-in_default-clause-ok
 returns-in_default-clause-ok c = λ b e.
-    none_won (with_stock b c.args.self.now)
+    none_won (with_frontier b c.args.self.now)
     c.args.enough e
     (subst (λ (rs : List Contender). (rank : ℕ) → IsWonAmong c.args.enough rs rank → ⊥)
     (c.as_slice.ensures.value ∙ c.in_ok-racers.ensures) (c.in_default.ensures.none refl))
@@ -44,7 +44,7 @@ win_race-requires-clause-room c =
 
 pub returns-clause-ok : goal.returns-clause-ok
 returns-clause-ok c = λ b e.
-    let old = with_stock b c.args.self.now in
+    let old = with_frontier b c.args.self.now in
     let won = subst (λ (rs : List Contender). IsWonAmong c.args.enough rs c.in-Some.rank)
     (c.as_slice.ensures.value ∙ c.in_ok-racers.ensures) c.in-Some.ensures.some in
     inl (

@@ -5,7 +5,7 @@ use ug_ranks::Ranks;
 /// The part of a book that events and decisions change, except the incumbent and the counts: pool,
 /// ranks, race and queue.
 #[derive(Drop)]
-pub struct Stock {
+pub struct Frontier {
     /// The open nodes, in order of floor, then name.
     pub pool: Pool,
     /// The state of each rank.

@@ -3,8 +3,8 @@ use Rattle.ug_stock.specs.Queues.{Queued}
 use Rattle.ug_ranks.specs.declared.state.State.{State}
 use Rattle.ug_rules.specs.Deciding.{given_to}
 use Rattle.ug_stock.proofs.Works.{few_work}
-use Rattle.ug_stock.specs.Stocks.{with_stock}
-use Rattle.ug_stock.proofs.stock.Stock.assign.Goals as goal
+use Rattle.ug_stock.specs.Frontiers.{with_frontier}
+use Rattle.ug_stock.proofs.frontier.Frontier.assign.Goals as goal
 
 pub returns-clause-ok : goal.returns-clause-ok
 returns-clause-ok c =
@@ -21,7 +21,7 @@ returns-clause-ok c =
         raced = g.raced;
         given_ = λ b t. g.given_ b t
             ∙ ap (λ (q : Queued). given_to c.args.rank g.entry c.give_first.new.self.pool.entries
-            (with_stock b (record c.args.self.now { orders = q }))) reserved;
+            (with_frontier b (record c.args.self.now { orders = q }))) reserved;
       };
       pool = c.give_first.ensures.placed.pool;
       working = c.give_first.ensures.placed.working;

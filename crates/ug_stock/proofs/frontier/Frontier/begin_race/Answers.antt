@@ -7,9 +7,9 @@ use Rattle.ug_pool.specs.declared.entry.Entry.{Entry}
 use Rattle.ug_rules.specs.Ranks.{ranks_that}
 use Rattle.ug_ranks.specs.Looks.{is_idle}
 use Rattle.ug_rules.specs.Deciding.{race_begun_with, raced_by_all}
-use Rattle.ug_stock.specs.Stocks.{with_stock}
+use Rattle.ug_stock.specs.Frontiers.{with_frontier}
 use Rattle.ug_stock.proofs.FirstOfPool.{same_first}
-use Rattle.ug_stock.proofs.stock.Stock.begin_race.Goals as goal
+use Rattle.ug_stock.proofs.frontier.Frontier.begin_race.Goals as goal
 
 pub returns-in-Some-take_first-clause-ok : goal.returns-in-Some-take_first-clause-ok
 returns-in-Some-take_first-clause-ok c = λ b is.
@@ -24,6 +24,6 @@ returns-in-Some-take_first-clause-ok c = λ b is.
     (All-replicate (λ (box : List Change). entry.node.changes ≡ box) c.count-counts.result.idle
     c.in-Some.first.now.node.changes same))
     ∙ (ap (λ (queue : Queued). raced_by_all (ranks_that is_idle s.ranks) entry
-    (with_stock b (record s { pool = c.take_first.new.pool; raced = Some entry; orders = queue })))
+    (with_frontier b (record s { pool = c.take_first.new.pool; raced = Some entry; orders = queue })))
     c.in_ok-reserve.ensures.ok
-    ∙ ap (λ (es : List Entry). race_begun_with es (with_stock b s)) (sym first))
+    ∙ ap (λ (es : List Entry). race_begun_with es (with_frontier b s)) (sym first))
