@@ -23,12 +23,12 @@ use Rattle.ug_worker.specs.declared.reply.Reply.{Reply}
 use Rattle.ug_worker.specs.declared.took.Took.TheVariants.{Work}
 use Rattle.ug_book.specs.declared.opening.Opening.{Opening}
 use Rattle.ug_book.specs.Openings.{opening_book}
-use Rattle.ug_desk.specs.declared.shelf.Shelf.{Shelf}
+use Rattle.ug_desk.specs.declared.locked_book.LockedBook.{LockedBook}
 use Rattle.ug_desk.specs.DeskStates.{DeskState, opening_state, own_ticket}
 use Rattle.ug_desk.specs.Entries.{HasEnded, LockedState}
 use Rattle.ug_desk.specs.Histories.{Call, Entry, Replays, Step, offered, stated, taken}
 use Rattle.ug_desk.specs.Passes.{HasCalledAt, HasLooked, IsItsProblem, PassState, entry_by, pass_seen}
-use Rattle.ug_desk.specs.Shelves.{HasTakenOut, ViewState, on, opening_of}
+use Rattle.ug_desk.specs.LockedBooks.{HasTakenOut, ViewState, on, opening_of}
 use Rattle.ug_desk.specs.Backing.{Backs, IsKnownBacked, IsUnbackedAnswer, IsWellOffered}
 use Rattle.ug_desk.specs.Words.{cutoff_at, floor_of, no_word, word_at}
 use Rattle.ug_turn.specs.Histories.{told}
@@ -347,12 +347,12 @@ offered_known x answer o after p q h well opened =
 -- ---- if a turn comes
 
 -- the book that was taken out backs what the pass knew
-pub known_out : (lock : TableId) (rank : ℕ) (old mid : ViewState) (shelf : Shelf) (cutoff : Option ℤ)
-    → HasTakenOut old shelf mid → IsKnownBacked (pass_seen lock rank old) cutoff
-    → Backs (on shelf).now.book cutoff
-known_out lock rank old mid shelf cutoff t known =
-    known (opening_of shelf) t.begins.0 (on shelf).now t.opened
-    (subst (λ (l : List Entry). Replays (opening_state (opening_of shelf)) l (on shelf).now)
+pub known_out : (lock : TableId) (rank : ℕ) (old mid : ViewState) (locked_book : LockedBook) (cutoff : Option ℤ)
+    → HasTakenOut old locked_book mid → IsKnownBacked (pass_seen lock rank old) cutoff
+    → Backs (on locked_book).now.book cutoff
+known_out lock rank old mid locked_book cutoff t known =
+    known (opening_of locked_book) t.begins.0 (on locked_book).now t.opened
+    (subst (λ (l : List Entry). Replays (opening_state (opening_of locked_book)) l (on locked_book).now)
     (sym t.begins.1) t.replayed.replays)
     t.lower
 

@@ -9,11 +9,11 @@ use Rattle.ug_book.specs.declared.opening.Opening.{Opening}
 use Rattle.ug_turn.specs.Seats as turn
 use Rattle.ug_turn.specs.Seats.{IsAtRestAt, IsNewSeat, lock_of, view_of}
 use Rattle.ug_turn.specs.Views.{maker}
-use Rattle.ug_desk.specs.declared.shelf.Shelf.{Shelf}
+use Rattle.ug_desk.specs.declared.locked_book.LockedBook.{LockedBook}
 use Rattle.ug_desk.specs.Histories.{Entry}
 use Rattle.ug_desk.specs.Entries.{LockedState}
 use Rattle.ug_desk.specs.Passes.{AreNewPasses, AreSeatsOf, IsClosed, IsInHistory, IsNewPass, IsSeatOf, PassState, calls_of, pass_seen}
-use Rattle.ug_desk.specs.Shelves.{AreFreshSeats, IsFreshSeat, Leads, SeatState, ViewState, on, opening_of, pass_by}
+use Rattle.ug_desk.specs.LockedBooks.{AreFreshSeats, IsFreshSeat, Leads, SeatState, ViewState, on, opening_of, pass_by}
 use Rattle.ug_desk.specs.Words.{floor_of}
 
 module _ {X : Type 0} where
@@ -72,7 +72,7 @@ seats_more passes seats p s all last = record {
   each = pairs_more IsSeatOf passes seats p s all.count all.each last;
 }
 
--- a new seat of a lock round a shelf
+-- a new seat of a lock round a locked book
 pub fresh_new : (lock : TableId) (o : Opening) (n word k : ℕ) (s : SeatState)
     → IsNewSeat lock (maker n o word) k s → IsFreshSeat lock o k s
 fresh_new lock o n word k s h = record {
@@ -130,16 +130,16 @@ seat_in history p s of h = record {
 }
 
 -- what a desk is closed with
-pub closed_so : (n : ℕ) (passes : List PassState) (seats : List SeatState) (shelf : Shelf) (l : LockedState)
-    → AreSeatsOf passes seats → turn.IsClosed opening_of Leads pass_by n seats shelf → length passes ≡ n
-    → l ≡ on shelf → IsClosed passes l
-closed_so n passes seats shelf l all h count is = subst (IsClosed passes) (sym is) (record {
+pub closed_so : (n : ℕ) (passes : List PassState) (seats : List SeatState) (locked_book : LockedBook) (l : LockedState)
+    → AreSeatsOf passes seats → turn.IsClosed opening_of Leads pass_by n seats locked_book → length passes ≡ n
+    → l ≡ on locked_book → IsClosed passes l
+closed_so n passes seats locked_book l all h count is = subst (IsClosed passes) (sym is) (record {
   history = h.history;
   replayed = h.replayed;
   opened = λ o began.
       let p = partner passes seats all.count h.opened.place h.opened.opener h.opened.there in
       let of = all.each h.opened.place p.0 h.opened.opener p.1 h.opened.there in
-      same_Some (opening_of shelf) o
+      same_Some (opening_of locked_book) o
       (sym h.opened.same ∙ (ap (λ (q : PassState). q.opening) of.view ∙ began h.opened.place p.0 p.1));
   each = λ k p there.
       let s = partner seats passes (sym all.count) k p there in

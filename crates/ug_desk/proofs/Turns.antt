@@ -17,43 +17,43 @@ use Rattle.ug_book.specs.declared.opening.Opening.{Opening}
 use Rattle.ug_book.specs.Openings.{opening_book}
 use Rattle.ug_turn.specs.Histories.{told}
 use Rattle.ug_turn.proofs.Calling.{called}
-use Rattle.ug_desk.specs.declared.shelf.Shelf.{Shelf}
+use Rattle.ug_desk.specs.declared.locked_book.LockedBook.{LockedBook}
 use Rattle.ug_desk.specs.Histories.{Call, Entry, copied, ended}
 use Rattle.ug_desk.specs.Entries.{HasEnded, HasEntered, IsLocked, IsOfOther, IsReplayed, IsSnapshotOf, LockedState}
 use Rattle.ug_desk.specs.Passes.{HasCalledAt, PassState, calls_of, entry_by, pass_seen}
-use Rattle.ug_desk.specs.Shelves.{HasPut, HasTakenOut, Leads, MayPut, ViewState, on, opening_of, pass_by, word_on}
+use Rattle.ug_desk.specs.LockedBooks.{HasPut, HasTakenOut, Leads, MayPut, ViewState, on, opening_of, pass_by, word_on}
 use Rattle.ug_desk.specs.Words.{word_of}
 use Rattle.ug_desk.proofs.Entering.{replayed_more}
 use Rattle.ug_desk.proofs.Falling.{step_falls}
 
 -- the rank of a pass is one of its book's
-pub rank_here : (rank : ℕ) (view : ViewState) (shelf : Shelf) → view.opening ≡ Some (opening_of shelf)
-    → IfSome view.opening (λ o. rank < o.settings.solvers) → IsLocked (on shelf)
-    → rank < length (on shelf).now.book.ranks
-rank_here rank view shelf opened here locked =
-    let few : rank < (opening_of shelf).settings.solvers =
+pub rank_here : (rank : ℕ) (view : ViewState) (locked_book : LockedBook) → view.opening ≡ Some (opening_of locked_book)
+    → IfSome view.opening (λ o. rank < o.settings.solvers) → IsLocked (on locked_book)
+    → rank < length (on locked_book).now.book.ranks
+rank_here rank view locked_book opened here locked =
+    let few : rank < (opening_of locked_book).settings.solvers =
     subst (λ (o : Option Opening). IfSome o (λ k. rank < k.settings.solvers)) opened here in
-    let wide : length (opening_book (opening_of shelf)).ranks ≡ (opening_of shelf).settings.solvers =
-    length-replicate (opening_of shelf).settings.solvers Absent in
+    let wide : length (opening_book (opening_of locked_book)).ranks ≡ (opening_of locked_book).settings.solvers =
+    length-replicate (opening_of locked_book).settings.solvers Absent in
     omega (arith, few, wide, locked.same.wide)
 
 -- a task of the desk's problem is one of the book's
-pub problem_out : (view : ViewState) (shelf : Shelf) (task : TaskState) (was : LockedState)
-    → view.opening ≡ Some (opening_of shelf) → IsLocked (on shelf) → was ≡ on shelf
+pub problem_out : (view : ViewState) (locked_book : LockedBook) (task : TaskState) (was : LockedState)
+    → view.opening ≡ Some (opening_of locked_book) → IsLocked (on locked_book) → was ≡ on locked_book
     → IfSome view.opening (λ (o : Opening). task.problem ≡ o.problem) → task.problem ≡ was.now.book.problem
-problem_out view shelf task was opened locked lent is =
-    let own : task.problem ≡ (opening_of shelf).problem =
+problem_out view locked_book task was opened locked lent is =
+    let own : task.problem ≡ (opening_of locked_book).problem =
     subst (λ (o : Option Opening). IfSome o (λ (k : Opening). task.problem ≡ k.problem)) opened is in
     own ∙ (sym locked.same.problem ∙ ap (λ (l : LockedState). l.now.book.problem) (sym lent))
 
-opened_mid : (old mid : ViewState) (before : Shelf) → HasTakenOut old before mid
+opened_mid : (old mid : ViewState) (before : LockedBook) → HasTakenOut old before mid
     → mid.opening ≡ Some (opening_of before)
 opened_mid old mid before t = ap (λ (v : ViewState). v.opening) t.same ∙ t.opened
 
-level_mid : (old mid : ViewState) (before : Shelf) → HasTakenOut old before mid → mid.level ≡ word_on before
+level_mid : (old mid : ViewState) (before : LockedBook) → HasTakenOut old before mid → mid.level ≡ word_on before
 level_mid old mid before t = ap (λ (v : ViewState). v.level) t.same
 
-pass_mid : (old mid : ViewState) (before : Shelf) → HasTakenOut old before mid → mid.pass ≡ old.pass
+pass_mid : (old mid : ViewState) (before : LockedBook) → HasTakenOut old before mid → mid.pass ≡ old.pass
 pass_mid old mid before t = ap (λ (v : ViewState). v.pass) t.same
 
 own_entry : (r pass : ℕ) (call : Call) (e : Entry) → pass ≡ r
@@ -62,7 +62,7 @@ own_entry r pass call e is same =
     ap (λ (k : Entry). k.pass) (sym (same_Some (record { pass = r; call = call }) e same)) ∙ sym is
 
 -- what was called may go home, with its entry
-pub may_put : (r : ℕ) (call : Call) (entry : Option Entry) (old mid : ViewState) (before after : Shelf)
+pub may_put : (r : ℕ) (call : Call) (entry : Option Entry) (old mid : ViewState) (before after : LockedBook)
     (was : LockedState) → entry ≡ Some (record { pass = r; call = call }) → HasTakenOut old before mid
     → old.pass ≡ r → was ≡ on before → HasEntered r call was (on after) → MayPut mid after entry
 may_put r call entry old mid before after was is t own lent called_ =
@@ -80,7 +80,7 @@ at_most_itself : (n : ℕ) → n ≤ n
 at_most_itself n = omega arith
 
 -- nothing was called
-put_same : (entry : Option Entry) (old mid : ViewState) (before : Shelf) → entry ≡ None
+put_same : (entry : Option Entry) (old mid : ViewState) (before : LockedBook) → entry ≡ None
     → HasTakenOut old before mid → MayPut mid before entry
 put_same entry old mid before is t =
     subst (λ (e : Option Entry). MayPut mid before e) (sym is) (record {
@@ -92,7 +92,7 @@ put_same entry old mid before is t =
     })
 
 -- the value is as it was
-pub may_put_none : (entry : Option Entry) (old mid : ViewState) (before after : Shelf) → entry ≡ None
+pub may_put_none : (entry : Option Entry) (old mid : ViewState) (before after : LockedBook) → entry ≡ None
     → on after ≡ on before → HasTakenOut old before mid → MayPut mid after entry
 may_put_none entry old mid before after is same t =
     let m = put_same entry old mid before is t in record {
@@ -107,7 +107,7 @@ no_higher e f g h = omega (arith, e, f, g, h)
 
 -- what the call did for its pass
 pub has_called : (call : Option Call) (entry : Option Entry) (r : ℕ) (lock old_lock : TableId) (p : PassState)
-    (old mid new : ViewState) (before after : Shelf) → entry ≡ entry_by r call
+    (old mid new : ViewState) (before after : LockedBook) → entry ≡ entry_by r call
     → HasTakenOut old before mid → MayPut mid after entry → HasPut mid after entry new → old.pass ≡ r
     → pass_seen old_lock r old ≡ p → lock ≡ p.lock
     → HasCalledAt call (on after) p (pass_seen lock r new)
@@ -128,7 +128,7 @@ has_called call entry r lock old_lock p old mid new before after is t may put ow
 
 -- a call and its entry, from the value taken out to the value home again
 pub called_home : (call : Call) (entry : Option Entry) (r : ℕ) (lock old_lock : TableId) (p : PassState)
-    (old mid new : ViewState) (before after : Shelf) (was : LockedState)
+    (old mid new : ViewState) (before after : LockedBook) (was : LockedState)
     → entry ≡ Some (record { pass = r; call = call }) → HasTakenOut old before mid → old.pass ≡ r
     → was ≡ on before → HasEntered r call was (on after)
     → HasPut mid after entry new → pass_seen old_lock r old ≡ p → lock ≡ p.lock
@@ -138,7 +138,7 @@ called_home call entry r lock old_lock p old mid new before after was is t own l
     (may_put r call entry old mid before after was is t own lent entered) put own shows its
 
 pub none_home : (entry : Option Entry) (r : ℕ) (lock old_lock : TableId) (p : PassState)
-    (old mid new : ViewState) (before after : Shelf) → entry ≡ None → HasTakenOut old before mid
+    (old mid new : ViewState) (before after : LockedBook) → entry ≡ None → HasTakenOut old before mid
     → old.pass ≡ r → on after ≡ on before → HasPut mid after entry new → pass_seen old_lock r old ≡ p
     → lock ≡ p.lock → HasCalledAt None (on after) p (pass_seen lock r new)
 none_home entry r lock old_lock p old mid new before after is t own same put shows its =

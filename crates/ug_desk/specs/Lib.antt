@@ -12,5 +12,5 @@ pub mod Passes
 pub mod Views
 pub mod DeskStates
 pub mod Words
-pub mod Shelves
+pub mod LockedBooks
 pub mod Backing

@@ -24,7 +24,7 @@ use Rattle.ug_desk.specs.declared.pass.Pass.TheInside.{Inside}
 use Rattle.ug_desk.specs.Dones.{IsOfTicket}
 use Rattle.ug_desk.specs.Histories.{Call, Entry, copied, ended, handed, left, taken}
 use Rattle.ug_desk.specs.Entries.{IsReplayed, IsSnapshotOf, LockedState}
-use Rattle.ug_desk.specs.Shelves.{SeatState, ViewState}
+use Rattle.ug_desk.specs.LockedBooks.{SeatState, ViewState}
 use Rattle.ug_desk.specs.Words.{cutoff_at, floor_of, no_word, word_of}
 
 -- at which lock it sits, and for which rank it speaks; what the history began with, the beginning

@@ -6,13 +6,13 @@ ghost use Rattle.ug_desk.specs.Passes.{HasCalled, HasCopied, HasEndedIn, HasHand
 ghost use Rattle.ug_desk.specs.Passes.{HasLooked, HasMet, HasTakenIn, IsItsProblem, lock_of_desk};
 ghost use Rattle.ug_problem.specs.Better.{IsSmallCutoff};
 ghost use Rattle.ug_desk.specs.Backing.{IsKnownBacked, IsUnbackedAnswer};
-ghost use Rattle.ug_desk.specs.Shelves.{HasTakenOut, IsOutFor};
+ghost use Rattle.ug_desk.specs.LockedBooks.{HasTakenOut, IsOutFor};
 
 use crate::desk::Desk;
 use crate::entry::Entry;
 use crate::given::opened;
+use crate::locked_book::LockedBook;
 use crate::pass::Pass;
-use crate::shelf::Shelf;
 use crate::word::cutoff_at;
 use std::alloc::AllocError;
 use std::snapshot;
@@ -33,12 +33,12 @@ impl Desk {
         ensures taken { HasTakenIn result pass.old pass.new }
         ensures lock { pass.new.lock ≡ pass.old.lock }
     {
-        let mut shelf = self.out(rt, &mut pass.seat, pass.rank);
-        let given = shelf.locked.take(pass.rank);
-        pass.heard = shelf.locked.book().heard();
-        let woken = shelf.locked.woken();
+        let mut locked_book = self.out(rt, &mut pass.seat, pass.rank);
+        let given = locked_book.locked.take(pass.rank);
+        pass.heard = locked_book.locked.book().heard();
+        let woken = locked_book.locked.woken();
         let entry = Entry::taken(pass.rank, &given);
-        self.turn.put(&mut pass.seat, shelf, Some(entry));
+        self.turn.put(&mut pass.seat, locked_book, Some(entry));
         self.wake(woken);
         opened(given)
     }
@@ -49,12 +49,12 @@ impl Desk {
         ensures { HasCalled (Some (offered point result)) pass.old pass.new }
     {
         let said = snapshot::Snapshot::of(&point);
-        let mut shelf = self.out(rt, &mut pass.seat, pass.rank);
-        let heard = shelf.locked.solution(pass.rank, point);
-        pass.heard = shelf.locked.book().heard();
-        let woken = shelf.locked.woken();
+        let mut locked_book = self.out(rt, &mut pass.seat, pass.rank);
+        let heard = locked_book.locked.solution(pass.rank, point);
+        pass.heard = locked_book.locked.book().heard();
+        let woken = locked_book.locked.woken();
         let entry = Entry::offered(pass.rank, said, &heard);
-        self.turn.put(&mut pass.seat, shelf, Some(entry));
+        self.turn.put(&mut pass.seat, locked_book, Some(entry));
         self.wake(woken);
         heard
     }
@@ -64,16 +64,16 @@ impl Desk {
         requires { pass.old.lock ≡ lock_of_desk self.now }
         ensures { HasHandedIn number area.now result pass.old pass.new }
     {
-        let mut shelf = self.out(rt, &mut pass.seat, pass.rank);
-        if !shelf.locked.is_as_wide(area) {
-            self.turn.put(&mut pass.seat, shelf, None);
+        let mut locked_book = self.out(rt, &mut pass.seat, pass.rank);
+        if !locked_book.locked.is_as_wide(area) {
+            self.turn.put(&mut pass.seat, locked_book, None);
             return Heard::Stale;
         }
-        let heard = shelf.locked.hand(pass.rank, number, area);
-        pass.heard = shelf.locked.book().heard();
-        let woken = shelf.locked.woken();
+        let heard = locked_book.locked.hand(pass.rank, number, area);
+        pass.heard = locked_book.locked.book().heard();
+        let woken = locked_book.locked.woken();
         let entry = Entry::handed(pass.rank, number, area, &heard);
-        self.turn.put(&mut pass.seat, shelf, Some(entry));
+        self.turn.put(&mut pass.seat, locked_book, Some(entry));
         self.wake(woken);
         heard
     }
@@ -91,12 +91,12 @@ impl Desk {
         ensures called { HasCalled (Some (stated left floor result)) pass.old pass.new }
         ensures small { IfOk result (λ reply. IsSmallCutoff reply.cutoff) }
     {
-        let mut shelf = self.out(rt, &mut pass.seat, pass.rank);
-        let reply = shelf.locked.state(pass.rank, left, floor);
-        pass.heard = shelf.locked.book().heard();
-        let woken = shelf.locked.woken();
+        let mut locked_book = self.out(rt, &mut pass.seat, pass.rank);
+        let reply = locked_book.locked.state(pass.rank, left, floor);
+        pass.heard = locked_book.locked.book().heard();
+        let woken = locked_book.locked.woken();
         let entry = Entry::stated(pass.rank, left, floor, &reply);
-        self.turn.put(&mut pass.seat, shelf, Some(entry));
+        self.turn.put(&mut pass.seat, locked_book, Some(entry));
         self.wake(woken);
         reply
     }
@@ -112,18 +112,18 @@ impl Desk {
         ensures ended { HasEndedIn task result pass.old pass.new }
         ensures backed { ¬ IsUnbackedAnswer result }
     {
-        let mut shelf = self.out(rt, &mut pass.seat, pass.rank);
-        let heard = shelf.locked.done(pass.rank, &task);
-        pass.heard = shelf.locked.book().heard();
-        let woken = shelf.locked.woken();
+        let mut locked_book = self.out(rt, &mut pass.seat, pass.rank);
+        let heard = locked_book.locked.done(pass.rank, &task);
+        pass.heard = locked_book.locked.book().heard();
+        let woken = locked_book.locked.woken();
         if heard == Heard::Stale {
-            self.turn.put(&mut pass.seat, shelf, None);
+            self.turn.put(&mut pass.seat, locked_book, None);
             drop(task);
             self.wake(woken);
             return heard;
         }
         let entry = Entry::ended(pass.rank, &task, &heard);
-        self.turn.put(&mut pass.seat, shelf, Some(entry));
+        self.turn.put(&mut pass.seat, locked_book, Some(entry));
         drop(task);
         self.wake(woken);
         heard
@@ -143,17 +143,17 @@ impl Desk {
         requires { pass.old.lock ≡ lock_of_desk self.now }
         ensures { HasLeft pass.old pass.new }
     {
-        let mut shelf = self.out(rt, &mut pass.seat, pass.rank);
-        let lived = shelf.locked.leave(pass.rank);
-        let woken = shelf.locked.woken();
+        let mut locked_book = self.out(rt, &mut pass.seat, pass.rank);
+        let lived = locked_book.locked.leave(pass.rank);
+        let woken = locked_book.locked.woken();
         if !lived {
-            self.turn.put(&mut pass.seat, shelf, None);
+            self.turn.put(&mut pass.seat, locked_book, None);
             self.wake(woken);
             return;
         }
-        pass.heard = shelf.locked.book().heard();
+        pass.heard = locked_book.locked.book().heard();
         let entry = Entry::left(pass.rank);
-        self.turn.put(&mut pass.seat, shelf, Some(entry));
+        self.turn.put(&mut pass.seat, locked_book, Some(entry));
         self.wake(woken);
     }
 
@@ -164,17 +164,17 @@ impl Desk {
         ensures ok { IfOk result (λ copy. HasCopied copy pass.old pass.new) }
         ensures err { OnErr result (HasCalled None pass.old pass.new) }
     {
-        let mut shelf = self.out(rt, &mut pass.seat, pass.rank);
-        let copy = shelf.locked.snapshot(pass.rank);
-        let _book = shelf.locked.book();
+        let mut locked_book = self.out(rt, &mut pass.seat, pass.rank);
+        let copy = locked_book.locked.snapshot(pass.rank);
+        let _book = locked_book.locked.book();
         match copy {
             Ok(copy) => {
                 let entry = Entry::copied(pass.rank);
-                self.turn.put(&mut pass.seat, shelf, Some(entry));
+                self.turn.put(&mut pass.seat, locked_book, Some(entry));
                 Ok(copy)
             }
             Err(error) => {
-                self.turn.put(&mut pass.seat, shelf, None);
+                self.turn.put(&mut pass.seat, locked_book, None);
                 Err(error)
             }
         }
@@ -185,9 +185,9 @@ impl Desk {
         requires { pass.old.lock ≡ lock_of_desk self.now }
         ensures { HasCalled None pass.old pass.new }
     {
-        let shelf = self.out(rt, &mut pass.seat, pass.rank);
-        let bound = shelf.locked.book().bound();
-        self.turn.put(&mut pass.seat, shelf, None);
+        let locked_book = self.out(rt, &mut pass.seat, pass.rank);
+        let bound = locked_book.locked.book().bound();
+        self.turn.put(&mut pass.seat, locked_book, None);
         bound
     }
 
@@ -215,15 +215,15 @@ impl Desk {
     }
 
     // Takes the value behind the lock, in the turn of a rank's seat.
-    fn out<R: Wait>(&self, rt: &R, seat: &mut SeatOf<Shelf>, rank: u32) -> Shelf
+    fn out<R: Wait>(&self, rt: &R, seat: &mut SeatOf<LockedBook>, rank: u32) -> LockedBook
         requires rest { IsAtRestAt (lock_of_desk self.now) seat.old }
         requires here { IfSome (view_of seat.old).opening (λ o. rank < o.settings.solvers) }
         ensures taken { HasTakenOut (view_of seat.old) result (view_of seat.new) }
         ensures out { IsOutFor (lock_of_desk self.now) rank result seat.new }
     {
-        let shelf = self.turn.take(rt, seat);
+        let locked_book = self.turn.take(rt, seat);
         // The book shows that what was taken out is what a desk's lock is round.
-        let _book = shelf.locked.book();
-        shelf
+        let _book = locked_book.locked.book();
+        locked_book
     }
 }

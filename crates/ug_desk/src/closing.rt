@@ -4,9 +4,9 @@ ghost use Rattle.ug_desk.specs.Passes.{IsClosed, lock_of_desk, width_of};
 
 use crate::desk::Desk;
 use crate::locked::Locked;
+use crate::locked_book::LockedBook;
 use crate::pass::Pass;
 use crate::passes::seats;
-use crate::shelf::Shelf;
 use std::alloc::Global;
 use std::boxed::Box;
 
@@ -25,9 +25,9 @@ impl Desk {
             return Err((self, passes));
         };
         let seats = seats(room, passes);
-        let Desk { turn, bells } = self;
-        drop(bells);
-        let Shelf { locked } = turn.close(seats);
+        let Desk { turn, wakeups } = self;
+        drop(wakeups);
+        let LockedBook { locked } = turn.close(seats);
         Ok(Box::into_inner(locked))
     }
 }

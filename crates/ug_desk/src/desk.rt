@@ -1,10 +1,10 @@
 ghost use Rattle.std.specs.Prelude.{◌≡◌, ◌<◌};
 ghost use Rattle.ug_turn.specs.Locks.{passes_of};
 
-use crate::bell::Bell;
+use crate::locked_book::LockedBook;
 use crate::pass::Pass;
-use crate::shelf::Shelf;
 use crate::waiting::Woken;
+use crate::wakeup::Wakeup;
 use std::alloc::{AllocError, Global};
 use std::sync::Wait;
 use ug_turn::Turn;
@@ -14,35 +14,35 @@ use ug_turn::Turn;
 /// one history, behind all that the pass had seen.
 #[derive(Drop)]
 pub struct Desk {
-    pub(crate) turn: Turn<Shelf>,
+    pub(crate) turn: Turn<LockedBook>,
     // What wakes each rank.
-    pub(crate) bells: Vec<Bell>,
+    pub(crate) wakeups: Vec<Wakeup>,
     ghost some: { 0 < passes_of turn },
 }
 
-/// Returns a bell for each rank.
-pub fn bells(alloc: Global, ranks: u32) -> Result<Vec<Bell>, AllocError> {
-    let mut bells = Vec::with_capacity(alloc, ranks as usize)?;
+/// Returns a wakeup for each rank.
+pub fn wakeups(alloc: Global, ranks: u32) -> Result<Vec<Wakeup>, AllocError> {
+    let mut wakeups = Vec::with_capacity(alloc, ranks as usize)?;
     for _ in 0..ranks {
-        bells.push(Bell::new())?;
+        wakeups.push(Wakeup::new())?;
     }
-    Ok(bells)
+    Ok(wakeups)
 }
 
 impl Desk {
     /// The desk of a lock.
-    pub(crate) fn over(turn: Turn<Shelf>, bells: Vec<Bell>) -> Desk
+    pub(crate) fn over(turn: Turn<LockedBook>, wakeups: Vec<Wakeup>) -> Desk
         requires { 0 < passes_of turn }
         ensures { result.turn ≡ turn }
     {
-        Desk { turn, bells }
+        Desk { turn, wakeups }
     }
 
     /// Sleeps until there is something for the rank of a pass that was answered Wait: work, the
     /// end, or that it is time to look again.
     pub fn rest<R: Wait>(&self, rt: &R, pass: &Pass) {
-        if let Some(bell) = self.bells.get(pass.rank as usize) {
-            bell.hear(rt);
+        if let Some(wakeup) = self.wakeups.get(pass.rank as usize) {
+            wakeup.hear(rt);
         }
     }
 
@@ -51,13 +51,13 @@ impl Desk {
         match woken {
             Woken::Nobody => {}
             Woken::One(rank) => {
-                if let Some(bell) = self.bells.get(rank as usize) {
-                    bell.ring();
+                if let Some(wakeup) = self.wakeups.get(rank as usize) {
+                    wakeup.ring();
                 }
             }
             Woken::All => {
-                for bell in self.bells.iter() {
-                    bell.ring();
+                for wakeup in self.wakeups.iter() {
+                    wakeup.ring();
                 }
             }
         }

@@ -8,7 +8,6 @@
 
 mod answer;
 mod area;
-mod bell;
 mod calls;
 mod closing;
 mod decide;
@@ -18,22 +17,23 @@ mod entry;
 mod given;
 mod hand;
 mod locked;
+mod locked_book;
 mod opening;
 mod parcel;
 mod pass;
 mod passes;
-mod shelf;
 mod state;
 mod take;
 mod ticket;
 mod tickets;
 mod waiting;
+mod wakeup;
 mod word;
 
 pub use desk::Desk;
 pub use entry::{Entry, Said};
 pub use given::Given;
 pub use locked::Locked;
+pub use locked_book::LockedBook;
 pub use parcel::Parcel;
 pub use pass::Pass;
-pub use shelf::Shelf;

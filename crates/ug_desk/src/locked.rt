@@ -27,14 +27,14 @@ use ug_frames::Report;
 use ug_nodes::Ticket;
 use ug_rows::{IntBox, Point};
 use ug_rules::Heard;
-use ug_snapshot::{Began, Snapshot, image_of};
+use ug_snapshot::{SharedOpening, Snapshot, image_of};
 use ug_worker::{Reply, Untaken};
 
 /// The value behind the lock of a desk.
 #[derive(Drop)]
 pub struct Locked {
     alloc: Global,
-    began: Began,
+    began: SharedOpening,
     book: Book,
     // The ticket of the last work of each rank.
     tickets: Vec<Ticket>,
@@ -74,7 +74,7 @@ impl Locked {
             number: 0,
         };
         let count = opening.settings.solvers;
-        let began = Began::new(alloc, opening)?;
+        let began = SharedOpening::new(alloc, opening)?;
         let Ok(tickets) = tickets(alloc, count, first) else {
             drop(began);
             return Err(AllocError);

@@ -3,10 +3,10 @@ ghost use Rattle.std.specs.Prelude.{◌≡◌, length, IfOk};
 ghost use Rattle.ug_book.specs.Openings.{IsOpening};
 ghost use Rattle.ug_desk.specs.Passes.{AreNewPasses, lock_of_desk, width_of};
 
-use crate::desk::{Desk, bells};
+use crate::desk::{Desk, wakeups};
+use crate::locked_book::LockedBook;
 use crate::pass::Pass;
 use crate::passes::passes;
-use crate::shelf::Shelf;
 use crate::word::floor_of;
 use std::alloc::{AllocError, Global};
 use std::snapshot::Snapshot;
@@ -25,17 +25,17 @@ impl Desk {
         let count = opening.settings.solvers;
         let floor = floor_of(opening.problem.problem());
         let began = Snapshot::of(&opening);
-        let Ok(bells) = bells(alloc, count) else {
+        let Ok(wakeups) = wakeups(alloc, count) else {
             drop(opening);
             return Err(AllocError);
         };
-        let shelf = Shelf::new(alloc, opening)?;
-        let (turn, seats) = Turn::new(alloc, shelf, count)?;
+        let locked_book = LockedBook::new(alloc, opening)?;
+        let (turn, seats) = Turn::new(alloc, locked_book, count)?;
         match passes(alloc, &turn, &began, floor, seats) {
-            Ok(passes) => Ok((Desk::over(turn, bells), passes)),
+            Ok(passes) => Ok((Desk::over(turn, wakeups), passes)),
             Err(error) => {
                 drop(turn);
-                drop(bells);
+                drop(wakeups);
                 Err(error)
             }
         }

@@ -3,7 +3,7 @@ ghost use Rattle.ug_turn.specs.Seats.{IsAtRest, lock_of, view_of};
 ghost use Rattle.ug_desk.specs.Passes.{IsSeatOf};
 ghost use Rattle.ug_desk.specs.Words.{floor_of};
 
-use crate::shelf::Shelf;
+use crate::locked_book::LockedBook;
 use std::marker::Model;
 use ug_turn::SeatOf;
 
@@ -14,7 +14,7 @@ pub struct Pass {
     pub(crate) heard: u64,
     // The floor of the root box, from which cutoff words count.
     pub(crate) floor: i128,
-    pub(crate) seat: SeatOf<Shelf>,
+    pub(crate) seat: SeatOf<LockedBook>,
 }
 
 impl Model for Pass {
@@ -29,7 +29,7 @@ impl Model for Pass {
 
 impl Pass {
     /// A pass that speaks for a rank by a seat of its own, and has made no call.
-    pub(crate) fn new(rank: u32, floor: i128, seat: SeatOf<Shelf>) -> Pass
+    pub(crate) fn new(rank: u32, floor: i128, seat: SeatOf<LockedBook>) -> Pass
         requires rest { IsAtRest seat }
         requires own { (view_of seat).pass ≡ rank }
         requires here { IfSome (view_of seat).opening (λ o. rank < o.settings.solvers) }
@@ -53,7 +53,7 @@ impl Pass {
     }
 
     /// Its seat, which it speaks by no more.
-    pub(crate) fn into_seat(self) -> SeatOf<Shelf>
+    pub(crate) fn into_seat(self) -> SeatOf<LockedBook>
         ensures { IsSeatOf self result }
     {
         let Pass { seat, .. } = self;

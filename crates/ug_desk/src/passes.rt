@@ -1,11 +1,11 @@
 ghost use Rattle.std.specs.Prelude.{◌≡◌, ◌<◌, ◌≤◌, ◌*◌, ◌^◌, [], length, unsigned_abs, vec_capacity, IfOk};
 ghost use Rattle.ug_turn.specs.Locks.{id_of};
 ghost use Rattle.ug_desk.specs.Passes.{AreNewPasses, AreSeatsOf};
-ghost use Rattle.ug_desk.specs.Shelves.{AreFreshSeats};
+ghost use Rattle.ug_desk.specs.LockedBooks.{AreFreshSeats};
 ghost use Rattle.ug_desk.specs.Words.{floor_of};
 
+use crate::locked_book::LockedBook;
 use crate::pass::Pass;
-use crate::shelf::Shelf;
 use std::alloc::{AllocError, Global};
 use std::snapshot::Snapshot;
 use ug_book::Opening;
@@ -14,10 +14,10 @@ use ug_turn::{SeatOf, Turn};
 /// A pass for each seat of a lock, where the history began with this opening.
 pub fn passes(
     alloc: Global,
-    turn: &Turn<Shelf>,
+    turn: &Turn<LockedBook>,
     began: &Snapshot<Opening>,
     floor: i128,
-    seats: Vec<SeatOf<Shelf>>,
+    seats: Vec<SeatOf<LockedBook>>,
 ) -> Result<Vec<Pass>, AllocError>
     requires floor { floor ≡ floor_of began.now.value.problem }
     requires small { unsigned_abs floor ≤ 2 * 10 ^ 37 }
@@ -40,7 +40,7 @@ pub fn passes(
 }
 
 /// The seats of passes, in room for as many.
-pub fn seats(room: Vec<SeatOf<Shelf>>, passes: Vec<Pass>) -> Vec<SeatOf<Shelf>>
+pub fn seats(room: Vec<SeatOf<LockedBook>>, passes: Vec<Pass>) -> Vec<SeatOf<LockedBook>>
     requires empty { room.items ≡ [] }
     requires room { length passes.items ≤ vec_capacity room }
     ensures { AreSeatsOf passes.items result.items }

@@ -3,10 +3,10 @@
 //! and an image of it, which is Covered if the opening is.
 #![tactic(auto)]
 
-mod began;
 mod moment;
+mod shared_opening;
 mod snapshot;
 
-pub use began::Began;
 pub use moment::image_of;
+pub use shared_opening::SharedOpening;
 pub use snapshot::Snapshot;

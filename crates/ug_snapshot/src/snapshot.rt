@@ -1,7 +1,7 @@
 ghost use Rattle.std.specs.Prelude.{◌≡◌, length};
 ghost use Rattle.ug_snapshot.specs.Snapshots.{IsSnapshot};
 
-use crate::began::Began;
+use crate::shared_opening::SharedOpening;
 use std::marker::Model;
 use ug_book::Opening;
 use ug_image::Image;
@@ -9,7 +9,7 @@ use ug_image::Image;
 /// What was held at a moment, to be saved: if its opening is covered, so is its image.
 #[derive(Drop)]
 pub struct Snapshot {
-    began: Began,
+    began: SharedOpening,
     // Under sequence 1: the saver replaces it by the next one.
     image: Image,
     count: u64,
@@ -28,7 +28,7 @@ impl Model for Snapshot {
 
 impl Snapshot {
     /// A snapshot of what began with this opening, with this image, after this many calls.
-    pub fn new(began: Began, image: Image, count: u64) -> Snapshot
+    pub fn new(began: SharedOpening, image: Image, count: u64) -> Snapshot
         requires { IsSnapshot (record { opening = began; image = image; count = count }) }
         ensures { result ≡ record { opening = began; image = image; count = count } }
     {

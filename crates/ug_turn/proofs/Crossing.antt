@@ -12,7 +12,7 @@ use Rattle.std.specs.contracts.impls.GlobalAllocator.TheImpl.{ghosts}
 use Rattle.std.specs.contracts.option.Option
 use Rattle.atomic_table.proofs.owned.Table.TheSendSync as table
 use Rattle.atomic_table.proofs.shared.Seat.TheSendSync as place
-use Rattle.ug_turn.proofs.turnstile.Turnstile.TheSendSync as turnstile
+use Rattle.ug_turn.proofs.entry_mutex.EntryMutex.TheSendSync as entry_mutex
 use Rattle.ug_turn.specs.declared.lasting.Lasting.{Ghosts}
 use Rattle.ug_turn.specs.contracts.held.Held
 use Rattle.ug_turn.specs.contracts.rule.InTurns
@@ -46,7 +46,7 @@ turn_field_sync V O E g s =
       table.the_field_sync (Option.the_row (Held.the_row V E)) (View.the_row O E) (Key.the_row V) (InTurns.the_row V)
           Global.the_row (rule.ghosts V O E g (given 0) (given 0)) ghosts (slot_send V E s)
           heap.the_send heap.the_sync freeing.the_frees,
-      (turnstile.the_field_sync, tt),
+      (entry_mutex.the_field_sync, tt),
     )
 
 pub turn_sync : (V O E : RattleType) (g : Ghosts V.Denot O.Denot E.Denot) → IsSend V

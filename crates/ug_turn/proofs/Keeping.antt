@@ -479,9 +479,9 @@ module _ {V O E : Type 0} (opening : V → O) (replays : V → List E → Type 0
         record { view = refl; slots = refl },
       )
 
-  pub looks : (slots id : ℕ) (me : Me (Option (Held V E)) (View O E)) → me.0.step ≡ 0
+  pub spins : (slots id : ℕ) (me : Me (Option (Held V E)) (View O E)) → me.0.step ≡ 0
       → Allows Rule slots id me 2 (λ n. n) (Looked (step slots 2 0 0 none) me)
-  looks slots id me no_turn s r homes at small =
+  spins slots id me no_turn s r homes at small =
       let v = me.0 in
       let found = slice_index s.words 2 in
       let w : View O E = record v { known = found } in

@@ -60,8 +60,8 @@ impl<V: Lasting + Drop> Turn<V> {
         requires all { (view_of last).parts ≡ passes_of self }
         ensures { EndsWith V.opening V.replays V.by (passes_of self) (view_of last) result }
     {
-        let Turn { table, turnstile } = self;
-        drop(turnstile);
+        let Turn { table, entry_mutex } = self;
+        drop(entry_mutex);
         let Seat { place, .. } = last;
         let mut closed = table.close_with(place);
         let held = closed.take(0).unwrap();

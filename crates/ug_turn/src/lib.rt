@@ -1,11 +1,12 @@
 //! A lock by turns round one value, which shows its history. A thread that needs the value enters
-//! the turnstile, draws a number, takes the value when it is served, and passes the turn on. The
+//! the entry mutex, draws a number, takes the value when it is served, and passes the turn on. The
 //! history exists in proofs only: each seat has seen a prefix of it, and the entries of each pass
 //! are the pass's own calls, each once. Beside the lock is a cutoff, which only falls and is read
 //! without a turn.
 #![tactic(auto)]
 
 mod closing;
+mod entry_mutex;
 mod held;
 mod lasting;
 mod notes;
@@ -17,7 +18,6 @@ mod seat;
 mod steps;
 mod taking;
 mod turn;
-mod turnstile;
 mod view;
 
 pub use lasting::Lasting;

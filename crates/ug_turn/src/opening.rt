@@ -4,13 +4,13 @@ ghost use Rattle.ug_turn.specs.Views.{less_one, maker, next_pass};
 ghost use Rattle.ug_turn.specs.Locks.{id_of, passes_of};
 ghost use Rattle.ug_turn.specs.Seats.{AreNewSeats, IsMaking};
 
+use crate::entry_mutex::EntryMutex;
 use crate::held::Held;
 use crate::lasting::Lasting;
 use crate::plays::MakePass;
 use crate::rule::Key;
 use crate::seat::{PlaceOf, Seat, SeatOf};
 use crate::turn::Turn;
-use crate::turnstile::Turnstile;
 use atomic_table::Table;
 use std::alloc::{AllocError, Global};
 use std::snapshot::Snapshot;
@@ -55,8 +55,8 @@ impl<V: Lasting + Drop> Turn<V> {
         slots.push(Some(Held { value, said }))?;
         match Table::new(alloc, &[0, 0, word], slots, &key) {
             Ok((table, maker)) => {
-                let turnstile = Turnstile::new();
-                Ok((Turn { table, turnstile }, maker))
+                let entry_mutex = EntryMutex::new();
+                Ok((Turn { table, entry_mutex }, maker))
             }
             Err(_) => Err(AllocError),
         }

@@ -22,7 +22,7 @@ impl<V: Lasting + Drop> Turn<V> {
         ensures taken { HasTaken V.opening V.replays V.by V.cutoff
             (view_of seat.old) result (view_of seat.new) }
     {
-        self.turnstile.enter(rt);
+        self.entry_mutex.enter(rt);
         self.draw(seat);
         self.await_turn(rt, seat);
         self.take_out(seat)
@@ -42,10 +42,10 @@ impl<V: Lasting + Drop> Turn<V> {
         self.put_home(seat, value, entry);
         self.lower(seat, word);
         self.pass_on(seat);
-        self.turnstile.leave();
+        self.entry_mutex.leave();
     }
 
-    // Waits for the seat's turn, which comes at once to who is in at the turnstile.
+    // Waits for the seat's turn, which comes at once to who is in at the entry mutex.
     fn await_turn<R: Wait>(&self, rt: &R, seat: &mut SeatOf<V>)
         requires lock { lock_of seat.old ≡ id_of self.now }
         requires waiting { IsWaiting 0 seat.old }

@@ -1,9 +1,9 @@
 ghost use Rattle.std.specs.Prelude.{◌≡◌, ◌<◌};
 
+use crate::entry_mutex::EntryMutex;
 use crate::held::Held;
 use crate::lasting::Lasting;
 use crate::rule::{InTurns, Key};
-use crate::turnstile::Turnstile;
 use crate::view::View;
 use atomic_table::Table;
 use std::alloc::Global;
@@ -18,7 +18,7 @@ pub struct Turn<V: Lasting + Drop> {
         InTurns<V>,
         Global,
     >,
-    pub(crate) turnstile: Turnstile,
+    pub(crate) entry_mutex: EntryMutex,
     ghost three: { table.shared.table_id.words ≡ 3 },
     ghost one: { table.shared.table_id.slots ≡ 1 },
 }

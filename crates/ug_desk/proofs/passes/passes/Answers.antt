@@ -5,7 +5,7 @@ use Rattle.std.proofs.lemmas.List.{append_assoc, length-append}
 use Rattle.std.specs.Vec.Iter.{into_iter_items}
 use Rattle.ug_turn.specs.Locks.{id_of}
 use Rattle.ug_desk.specs.Passes.{AreNewPasses, IsNewPass}
-use Rattle.ug_desk.specs.Shelves.{SeatState}
+use Rattle.ug_desk.specs.LockedBooks.{SeatState}
 use Rattle.ug_desk.proofs.Seating.{fresh_at, fresh_floor, fresh_here, new_pass, passes_more}
 use Rattle.ug_desk.proofs.passes.passes.Goals as goal
 

@@ -6,17 +6,17 @@ use Rattle.ug_desk.proofs.desk.Desk.hand.Goals as goal
 
 pub put-requires-2-clause-may : goal.put-requires-2-clause-may
 put-requires-2-clause-may g c =
-    may_put c.pass.inside.rank (handed c.args.number c.args.area.now c.hand-heard.result) _ _ _ c.out-shelf.result (record { locked = with_value c.out-shelf.result.locked c.hand-heard.new.self }) _
-    (ap (λ (e : Entry). Some e) c.handed-entry.ensures) c.out-shelf.ensures.taken c.pass.invariant.own c.deref_mut.ensures.value
+    may_put c.pass.inside.rank (handed c.args.number c.args.area.now c.hand-heard.result) _ _ _ c.out-locked_book.result (record { locked = with_value c.out-locked_book.result.locked c.hand-heard.new.self }) _
+    (ap (λ (e : Entry). Some e) c.handed-entry.ensures) c.out-locked_book.ensures.taken c.pass.invariant.own c.deref_mut.ensures.value
     c.hand-heard.ensures
 
 pub returns : goal.returns
 returns g c = record {
   after = c.hand-heard.new.self;
-  wide = λ wide. called_home (handed c.args.number c.args.area.now c.hand-heard.result) _ c.pass.inside.rank _ _ _ _ _ _ c.out-shelf.result (record { locked = with_value c.out-shelf.result.locked c.hand-heard.new.self }) _
-      (ap (λ (e : Entry). Some e) c.handed-entry.ensures) c.out-shelf.ensures.taken c.pass.invariant.own c.deref_mut.ensures.value
+  wide = λ wide. called_home (handed c.args.number c.args.area.now c.hand-heard.result) _ c.pass.inside.rank _ _ _ _ _ _ c.out-locked_book.result (record { locked = with_value c.out-locked_book.result.locked c.hand-heard.new.self }) _
+      (ap (λ (e : Entry). Some e) c.handed-entry.ensures) c.out-locked_book.ensures.taken c.pass.invariant.own c.deref_mut.ensures.value
       c.hand-heard.ensures
       c.put-2.ensures.put c.pass.view_is
-      (c.put-2.ensures.lock ∙ (c.out-shelf.ensures.out.lock_is ∙ sym c.requires));
+      (c.put-2.ensures.lock ∙ (c.out-locked_book.ensures.out.lock_is ∙ sym c.requires));
   other = λ other. absurd (other (search rules));
 }

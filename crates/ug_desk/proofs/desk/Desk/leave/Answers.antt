@@ -11,18 +11,18 @@ use Rattle.ug_desk.proofs.desk.Desk.leave.Goals as goal
 
 pub put-requires-2-clause-may : goal.put-requires-2-clause-may
 put-requires-2-clause-may g c =
-    may_put c.pass.inside.rank left _ _ _ c.out-shelf.result (record { locked = with_value c.out-shelf.result.locked c.leave-lived.new.self }) _
-    (ap (λ (e : Entry). Some e) c.left-entry.ensures) c.out-shelf.ensures.taken c.pass.invariant.own c.deref_mut.ensures.value
+    may_put c.pass.inside.rank left _ _ _ c.out-locked_book.result (record { locked = with_value c.out-locked_book.result.locked c.leave-lived.new.self }) _
+    (ap (λ (e : Entry). Some e) c.left-entry.ensures) c.out-locked_book.ensures.taken c.pass.invariant.own c.deref_mut.ensures.value
     (if_alive (is_alive (state_at c.deref_mut.result.now.now.book.ranks c.pass.inside.rank)) (HasEntered c.pass.inside.rank left c.deref_mut.result.now c.leave-lived.new.self) (c.leave-lived.new.self ≡ c.deref_mut.result.now) c.leave-lived.ensures.done (search rules))
 
 pub returns : goal.returns
 returns g c = inl (
   c.leave-lived.new.self,
-  called_home left _ c.pass.inside.rank _ _ _ _ _ _ c.out-shelf.result (record { locked = with_value c.out-shelf.result.locked c.leave-lived.new.self }) _
-      (ap (λ (e : Entry). Some e) c.left-entry.ensures) c.out-shelf.ensures.taken c.pass.invariant.own c.deref_mut.ensures.value
+  called_home left _ c.pass.inside.rank _ _ _ _ _ _ c.out-locked_book.result (record { locked = with_value c.out-locked_book.result.locked c.leave-lived.new.self }) _
+      (ap (λ (e : Entry). Some e) c.left-entry.ensures) c.out-locked_book.ensures.taken c.pass.invariant.own c.deref_mut.ensures.value
       (if_alive (is_alive (state_at c.deref_mut.result.now.now.book.ranks c.pass.inside.rank)) (HasEntered c.pass.inside.rank left c.deref_mut.result.now c.leave-lived.new.self) (c.leave-lived.new.self ≡ c.deref_mut.result.now) c.leave-lived.ensures.done (search rules))
       c.put-2.ensures.put c.pass.view_is
-      (c.put-2.ensures.lock ∙ (c.out-shelf.ensures.out.lock_is ∙ sym c.requires)),
+      (c.put-2.ensures.lock ∙ (c.out-locked_book.ensures.out.lock_is ∙ sym c.requires)),
 )
 
 pub returns-then-not-lived : goal.returns-then-not-lived
@@ -31,10 +31,10 @@ returns-then-not-lived g c =
     let same = if_dead (is_alive (state_at c.deref_mut.result.now.now.book.ranks c.pass.inside.rank)) (HasEntered c.pass.inside.rank left c.deref_mut.result.now c.leave-lived.new.self) (c.leave-lived.new.self ≡ c.deref_mut.result.now) c.leave-lived.ensures.done dead in
     inr (record {
       after = c.leave-lived.new.self;
-      called = none_home _ c.pass.inside.rank _ _ _ _ _ _ c.out-shelf.result
-          (record { locked = with_value c.out-shelf.result.locked c.leave-lived.new.self }) refl
-          c.out-shelf.ensures.taken c.pass.invariant.own (same ∙ c.deref_mut.ensures.value) c.put.ensures.put
-          c.pass.view_is (c.put.ensures.lock ∙ (c.out-shelf.ensures.out.lock_is ∙ sym c.requires));
+      called = none_home _ c.pass.inside.rank _ _ _ _ _ _ c.out-locked_book.result
+          (record { locked = with_value c.out-locked_book.result.locked c.leave-lived.new.self }) refl
+          c.out-locked_book.ensures.taken c.pass.invariant.own (same ∙ c.deref_mut.ensures.value) c.put.ensures.put
+          c.pass.view_is (c.put.ensures.lock ∙ (c.out-locked_book.ensures.out.lock_is ∙ sym c.requires));
       gone = subst (λ (l : LockedState). is_alive (state_at l.now.book.ranks c.args.pass.now.rank) ≡ false) (sym same)
           (subst (λ r. is_alive (state_at c.deref_mut.result.now.now.book.ranks r) ≡ false)
           (ap (λ (p : PassState). p.rank) c.pass.view_is) dead);

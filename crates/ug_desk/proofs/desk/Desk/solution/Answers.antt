@@ -7,18 +7,18 @@ use Rattle.ug_desk.proofs.desk.Desk.solution.Goals as goal
 
 pub put-requires-clause-may : goal.put-requires-clause-may
 put-requires-clause-may g c =
-    may_put c.pass.inside.rank (offered c.args.point c.solution-heard.result) _ _ _ c.out-shelf.result (record { locked = with_value c.out-shelf.result.locked c.solution-heard.new.self }) _
+    may_put c.pass.inside.rank (offered c.args.point c.solution-heard.result) _ _ _ c.out-locked_book.result (record { locked = with_value c.out-locked_book.result.locked c.solution-heard.new.self }) _
     (ap (λ (e : Entry). Some e) c.offered-entry.ensures
-    ∙ ap (λ (x : List ℤ). Some (record { pass = c.pass.inside.rank; call = offered x c.solution-heard.result })) c.of-said.ensures) c.out-shelf.ensures.taken c.pass.invariant.own c.deref_mut.ensures.value
+    ∙ ap (λ (x : List ℤ). Some (record { pass = c.pass.inside.rank; call = offered x c.solution-heard.result })) c.of-said.ensures) c.out-locked_book.ensures.taken c.pass.invariant.own c.deref_mut.ensures.value
     c.solution-heard.ensures
 
 pub returns : goal.returns
 returns g c = (
   c.solution-heard.new.self,
-  called_home (offered c.args.point c.solution-heard.result) _ c.pass.inside.rank _ _ _ _ _ _ c.out-shelf.result (record { locked = with_value c.out-shelf.result.locked c.solution-heard.new.self }) _
+  called_home (offered c.args.point c.solution-heard.result) _ c.pass.inside.rank _ _ _ _ _ _ c.out-locked_book.result (record { locked = with_value c.out-locked_book.result.locked c.solution-heard.new.self }) _
       (ap (λ (e : Entry). Some e) c.offered-entry.ensures
-      ∙ ap (λ (x : List ℤ). Some (record { pass = c.pass.inside.rank; call = offered x c.solution-heard.result })) c.of-said.ensures) c.out-shelf.ensures.taken c.pass.invariant.own c.deref_mut.ensures.value
+      ∙ ap (λ (x : List ℤ). Some (record { pass = c.pass.inside.rank; call = offered x c.solution-heard.result })) c.of-said.ensures) c.out-locked_book.ensures.taken c.pass.invariant.own c.deref_mut.ensures.value
       c.solution-heard.ensures
       c.put.ensures.put c.pass.view_is
-      (c.put.ensures.lock ∙ (c.out-shelf.ensures.out.lock_is ∙ sym c.requires)),
+      (c.put.ensures.lock ∙ (c.out-locked_book.ensures.out.lock_is ∙ sym c.requires)),
 )

@@ -4,15 +4,15 @@ use std::sync::atomic::{AtomicU64, Ordering};
 /// Wakes a sleeper. A ring stays until the sleeper has seen it, so none is lost that comes before
 /// the sleep. No contract depends on it.
 #[derive(Drop)]
-pub struct Bell {
+pub struct Wakeup {
     // 1 if it was rung and nobody has seen it yet, else 0.
     word: AtomicU64,
 }
 
-impl Bell {
+impl Wakeup {
     /// It was not rung.
-    pub fn new() -> Bell {
-        Bell {
+    pub fn new() -> Wakeup {
+        Wakeup {
             word: AtomicU64::new(0),
         }
     }

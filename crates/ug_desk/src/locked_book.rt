@@ -1,7 +1,7 @@
 ghost use Rattle.std.specs.Prelude.{◌≡◌, IfOk};
 ghost use Rattle.ug_book.specs.Openings.{IsOpening};
 ghost use Rattle.ug_desk.specs.DeskStates.{opening_state};
-ghost use Rattle.ug_desk.specs.Shelves.{on};
+ghost use Rattle.ug_desk.specs.LockedBooks.{on};
 
 use crate::entry::Entry;
 use crate::locked::Locked;
@@ -12,13 +12,13 @@ use ug_turn::Lasting;
 
 /// What lies behind the lock of a desk: a pointer, so that a turn moves no book.
 #[derive(Drop)]
-pub struct Shelf {
+pub struct LockedBook {
     pub locked: Box<Locked, Global>,
 }
 
-impl Shelf {
+impl LockedBook {
     /// With what stands when a run begins.
-    pub fn new(alloc: Global, opening: Opening) -> Result<Shelf, AllocError>
+    pub fn new(alloc: Global, opening: Opening) -> Result<LockedBook, AllocError>
         requires { IsOpening opening }
         ensures { IfOk result (λ s. on s ≡ record {
           opening = opening;
@@ -28,7 +28,7 @@ impl Shelf {
     {
         let locked = Locked::new(alloc, opening)?;
         match Box::new(alloc, locked) {
-            Ok(locked) => Ok(Shelf { locked }),
+            Ok(locked) => Ok(LockedBook { locked }),
             Err(failed) => {
                 drop(failed);
                 Err(AllocError)
@@ -37,8 +37,8 @@ impl Shelf {
     }
 }
 
-impl Lasting for Shelf {
-    ghost use Rattle.ug_desk.specs.Shelves.{Leads, opening_of, pass_by, word_on};
+impl Lasting for LockedBook {
+    ghost use Rattle.ug_desk.specs.LockedBooks.{Leads, opening_of, pass_by, word_on};
 
     type Opening = Opening;
 

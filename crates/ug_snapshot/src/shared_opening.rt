@@ -7,11 +7,11 @@ use ug_book::Opening;
 
 /// What a run began with, in one place in memory, so that each snapshot holds it without a copy.
 #[derive(Drop)]
-pub struct Began {
+pub struct SharedOpening {
     place: Arc<Opening>,
 }
 
-impl Model for Began {
+impl Model for SharedOpening {
     ghost use Rattle.std.specs.Arc.{arc_value};
     ghost use Rattle.ug_book.specs.declared.opening.Opening.{Opening};
 
@@ -20,13 +20,13 @@ impl Model for Began {
     ghost view = { λ began. arc_value began.place };
 }
 
-impl Began {
+impl SharedOpening {
     /// What a run begins with. After an error the opening is dropped.
-    pub fn new(alloc: Global, opening: Opening) -> Result<Began, AllocError>
+    pub fn new(alloc: Global, opening: Opening) -> Result<SharedOpening, AllocError>
         ensures { IfOk result (λ began. began ≡ opening) }
     {
         let place = Arc::new(alloc, opening)?;
-        Ok(Began { place })
+        Ok(SharedOpening { place })
     }
 
     /// The opening. It takes no memory.
@@ -37,10 +37,10 @@ impl Began {
     }
 
     /// A second holder of the same place.
-    pub fn share(&self) -> Result<Began, AllocError>
+    pub fn share(&self) -> Result<SharedOpening, AllocError>
         ensures { IfOk result (λ shared. shared ≡ self.now) }
     {
         let place = Arc::try_clone(&self.place)?;
-        Ok(Began { place })
+        Ok(SharedOpening { place })
     }
 }

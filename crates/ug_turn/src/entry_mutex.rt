@@ -2,29 +2,29 @@ use std::hint::spin_loop;
 use std::sync::Wait;
 use std::sync::atomic::{AtomicU64, Ordering};
 
-// How often one looks before one sleeps.
-const LOOKS: u32 = 100;
+// How often a thread tries before it sleeps.
+const SPINS_BEFORE_SLEEP: u32 = 100;
 
-/// Lets one in at a time, whoever looks first once it is free. Those that draw numbers draw them
+/// Lets one in at a time, whoever tries first once it is free. Those that draw numbers draw them
 /// within, so that the number is served at once: were they served in the order in which they came,
 /// each that sleeps would keep all behind it waiting until it is awake. No promise depends on it.
 #[derive(Drop)]
-pub struct Turnstile {
+pub struct EntryMutex {
     // 0 where nobody is in, 1 where somebody is, 2 where others may sleep besides.
     word: AtomicU64,
 }
 
-impl Turnstile {
+impl EntryMutex {
     /// Nobody is in.
-    pub fn new() -> Turnstile {
-        Turnstile {
+    pub fn new() -> EntryMutex {
+        EntryMutex {
             word: AtomicU64::new(0),
         }
     }
 
     /// Goes in, as soon as nobody is.
     pub fn enter<R: Wait>(&self, rt: &R) {
-        if self.looks() {
+        if self.spins() {
             return;
         }
         for _ in rt.forever() {
@@ -36,9 +36,9 @@ impl Turnstile {
         unreachable!()
     }
 
-    // Looks a little while, and goes in if nobody is.
-    fn looks(&self) -> bool {
-        for _ in 0..LOOKS {
+    // Spins a little while, and goes in if nobody is.
+    fn spins(&self) -> bool {
+        for _ in 0..SPINS_BEFORE_SLEEP {
             if self.word.load(Ordering::SeqCst) == 0 && self.takes() {
                 return true;
             }
