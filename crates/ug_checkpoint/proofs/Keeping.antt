@@ -6,9 +6,9 @@ use Rattle.ug_disk.specs.declared.slot.Slot.TheVariants.{Zero, One}
 use Rattle.ug_disk.specs.Slots.{SlotState, MayLeave, synced}
 use Rattle.ug_disk.specs.Histories.{History, slot_of}
 use Rattle.ug_disk.proofs.Images.{only_bytes}
-use Rattle.ug_checkpoint.specs.declared.slots.keeper.Keeper.{Keeper}
+use Rattle.ug_checkpoint.specs.declared.slots.slot_pair.SlotPair.{SlotPair}
 use Rattle.ug_checkpoint.specs.Gates.{IsOpen, IsSynced, HasBody, Opens}
-use Rattle.ug_checkpoint.specs.Keepers.{Knows, last_of, next_after, target_of}
+use Rattle.ug_checkpoint.specs.SlotPairs.{Knows, last_of, next_after, target_of}
 use Rattle.ug_checkpoint.specs.Runs.{AreSynced, Stands, Becomes, Have, HasSaved, MaySave, other}
 use Rattle.ug_image.specs.declared.image.Image.{Image}
 use Rattle.ug_checkpoint.specs.declared.found.Found.{Found}
@@ -18,18 +18,18 @@ use Rattle.ug_checkpoint.specs.Recovery.{chosen, HasFound, Recovered}
 use Rattle.ug_checkpoint.specs.Savers.{HasImage, IsAcknowledged, Rests, IsKept}
 use Rattle.ug_checkpoint.proofs.Finding.{chosen_zero, chosen_one}
 
-abbrev pub saver_of : Keeper → ℕ → Saver
-saver_of keeper sequence = record { keeper = keeper; sequence = sequence }
+abbrev pub saver_of : SlotPair → ℕ → Saver
+saver_of slot_pair sequence = record { slot_pair = slot_pair; sequence = sequence }
 
 -- how the two slots stand, by which of them has the last image
 abbrev pub Standing : ℕ → Option History → Option Slot → Type 0
 Standing sequence told last = Stands told (other (next_after last)) (Rests last sequence)
     × Stands told (next_after last) (Opens HasImage)
 
-pub kept_from : (keeper : Keeper) (sequence : ℕ) (told : Option History) (last : Option Slot)
-    → last_of keeper ≡ last → Knows keeper told
-    → Standing sequence told last → IsKept (saver_of keeper sequence) told
-kept_from keeper sequence told last is knows standing =
+pub kept_from : (slot_pair : SlotPair) (sequence : ℕ) (told : Option History) (last : Option Slot)
+    → last_of slot_pair ≡ last → Knows slot_pair told
+    → Standing sequence told last → IsKept (saver_of slot_pair sequence) told
+kept_from slot_pair sequence told last is knows standing =
     let stands = subst (λ l. Standing sequence told l) (sym is) standing in
     record { knows = knows; rests = stands.0; images = stands.1 }
 
@@ -95,18 +95,18 @@ stands_none (Some told) zero one have recovered =
           (stores_opens zero recovered.in_zero recovered.has_zero),
     )
 
-kept_found : (keeper : Keeper) (found : Found) (told : Option History) (zero one : List ℕ)
-    → last_of keeper ≡ Some found.slot → Knows keeper told → Have told zero one
-    → Recovered zero one (Some found) → IsKept (saver_of keeper found.image.sequence) told
-kept_found keeper found told zero one is knows have recovered =
-    kept_from keeper found.image.sequence told (Some found.slot) is knows
+kept_found : (slot_pair : SlotPair) (found : Found) (told : Option History) (zero one : List ℕ)
+    → last_of slot_pair ≡ Some found.slot → Knows slot_pair told → Have told zero one
+    → Recovered zero one (Some found) → IsKept (saver_of slot_pair found.image.sequence) told
+kept_found slot_pair found told zero one is knows have recovered =
+    kept_from slot_pair found.image.sequence told (Some found.slot) is knows
     (stands_found told zero one found.slot found.image have recovered)
 
-kept_none : (keeper : Keeper) (told : Option History) (zero one : List ℕ)
-    → last_of keeper ≡ None → Knows keeper told → Have told zero one
-    → Recovered zero one None → IsKept (saver_of keeper 0) told
-kept_none keeper told zero one is knows have recovered =
-    kept_from keeper 0 told None is knows (stands_none told zero one have recovered)
+kept_none : (slot_pair : SlotPair) (told : Option History) (zero one : List ℕ)
+    → last_of slot_pair ≡ None → Knows slot_pair told → Have told zero one
+    → Recovered zero one None → IsKept (saver_of slot_pair 0) told
+kept_none slot_pair told zero one is knows have recovered =
+    kept_from slot_pair 0 told None is knows (stands_none told zero one have recovered)
 
 -- the slot that a save leaves alone has an image where it is open
 rests_opens : (last : Option Slot) (sequence : ℕ) (state : SlotState) → Rests last sequence state
@@ -154,7 +154,7 @@ stands_failed (Some old) (Some new) last sequence image read standing now = (
       (λ has. (image, read slot has)) (now.1 slot left opened),
 )
 
-pub kept_saved : (before after : Keeper) (old new : Option History) (sequence : ℕ) (image : Image)
+pub kept_saved : (before after : SlotPair) (old new : Option History) (sequence : ℕ) (image : Image)
     → ((slot : List ℕ) → HasBody (body_of image) slot → Has slot image)
     → IsKept (saver_of before sequence) old → Knows after new
     → last_of after ≡ Some (target_of before)
@@ -164,7 +164,7 @@ kept_saved before after old new sequence image read kept knows is saved =
     kept_from after image.sequence new (Some (target_of before)) is knows
     (stands_saved old new (last_of before) sequence image read (kept.rests, kept.images) saved)
 
-pub kept_failed : (before after : Keeper) (old new : Option History) (sequence : ℕ) (image : Image)
+pub kept_failed : (before after : SlotPair) (old new : Option History) (sequence : ℕ) (image : Image)
     → ((slot : List ℕ) → HasBody (body_of image) slot → Has slot image)
     → IsKept (saver_of before sequence) old → Knows after new
     → last_of after ≡ last_of before
@@ -184,17 +184,17 @@ have_synced (Some told) zero one have = (
 )
 
 -- a saver of what a load left
-pub kept_loaded : (keeper : Keeper) (found : Found) (old new : Option History)
-    → last_of keeper ≡ Some found.slot
-    → ((told : Option History) → AreSynced told → Knows keeper told)
-    → HasFound old new (Some found) → IsKept (saver_of keeper found.image.sequence) new
-kept_loaded keeper found old new is knows loaded =
-    kept_found keeper found new loaded.zero loaded.one is
+pub kept_loaded : (slot_pair : SlotPair) (found : Found) (old new : Option History)
+    → last_of slot_pair ≡ Some found.slot
+    → ((told : Option History) → AreSynced told → Knows slot_pair told)
+    → HasFound old new (Some found) → IsKept (saver_of slot_pair found.image.sequence) new
+kept_loaded slot_pair found old new is knows loaded =
+    kept_found slot_pair found new loaded.zero loaded.one is
     (knows new (have_synced new loaded.zero loaded.one loaded.have)) loaded.have loaded.is
 
-pub kept_empty : (keeper : Keeper) (old new : Option History) → last_of keeper ≡ None
-    → ((told : Option History) → AreSynced told → Knows keeper told)
-    → HasFound old new None → IsKept (saver_of keeper 0) new
-kept_empty keeper old new is knows loaded =
-    kept_none keeper new loaded.zero loaded.one is
+pub kept_empty : (slot_pair : SlotPair) (old new : Option History) → last_of slot_pair ≡ None
+    → ((told : Option History) → AreSynced told → Knows slot_pair told)
+    → HasFound old new None → IsKept (saver_of slot_pair 0) new
+kept_empty slot_pair old new is knows loaded =
+    kept_none slot_pair new loaded.zero loaded.one is
     (knows new (have_synced new loaded.zero loaded.one loaded.have)) loaded.have loaded.is

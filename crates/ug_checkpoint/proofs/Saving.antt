@@ -7,7 +7,7 @@ use Rattle.ug_disk.specs.Histories.{Slots, History, slot_of}
 use Rattle.ug_disk.specs.Crashes.{MayLeaveBoth, Leaves}
 use Rattle.ug_disk.proofs.Moments.{starts, weakens}
 use Rattle.ug_checkpoint.specs.Gates.{HasBody}
-use Rattle.ug_checkpoint.specs.Keepers.{next_after}
+use Rattle.ug_checkpoint.specs.SlotPairs.{next_after}
 use Rattle.ug_checkpoint.specs.Runs.{Becomes, OnlyOpens, IsOldOrNew, HasSaved, bytes_in, other}
 use Rattle.ug_image.specs.declared.image.Image.{Image}
 use Rattle.ug_checkpoint.specs.declared.found.Found.{Found}

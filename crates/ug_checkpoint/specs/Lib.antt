@@ -6,5 +6,5 @@ pub mod Laws
 pub mod Recovery
 pub mod Savers
 pub mod Gates
-pub mod Keepers
+pub mod SlotPairs
 pub mod Runs

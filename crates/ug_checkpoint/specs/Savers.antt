@@ -5,7 +5,7 @@ use Rattle.ug_disk.specs.Slots.{SlotState}
 use Rattle.ug_disk.specs.Histories.{History, slot_of}
 use Rattle.ug_disk.specs.Crashes.{MayLeaveBoth}
 use Rattle.ug_checkpoint.specs.Gates.{IsSynced, Opens}
-use Rattle.ug_checkpoint.specs.Keepers.{Knows, last_of, target_of}
+use Rattle.ug_checkpoint.specs.SlotPairs.{Knows, last_of, target_of}
 use Rattle.ug_checkpoint.specs.Runs.{Becomes, Stands, CouldLeave, other}
 use Rattle.ug_image.specs.declared.image.Image.{Image}
 use Rattle.ug_checkpoint.specs.declared.found.Found.{Found}
@@ -15,11 +15,11 @@ use Rattle.ug_checkpoint.specs.Recovery.{Recovered}
 
 -- the slot of the last acknowledged image, if there is one
 abbrev pub last_slot : Saver → Option Slot
-last_slot saver = last_of saver.keeper
+last_slot saver = last_of saver.slot_pair
 
 -- the slot that the next save writes
 abbrev pub next_slot : Saver → Slot
-next_slot saver = target_of saver.keeper
+next_slot saver = target_of saver.slot_pair
 
 -- the sequence of the last acknowledged image, 0 before any
 abbrev pub sequence_of : Saver → ℕ
@@ -44,7 +44,7 @@ Rests (Some slot) sequence state = IsAcknowledged sequence state
 
 -- The slots stand as a load left them, or the saver's last save.
 pub record IsKept (saver : Saver) (told : Option History) : Type 0 where
-  pub knows : Knows saver.keeper told
+  pub knows : Knows saver.slot_pair told
   pub rests : Stands told (other (next_slot saver)) (Rests (last_slot saver) (sequence_of saver))
   pub images : Stands told (next_slot saver) (Opens HasImage)
 

@@ -19,6 +19,6 @@ pub use found::Found;
 pub use laws::recovery_is_one;
 pub use loading::load;
 pub use saver::Saver;
-pub use slots::keeper::Keeper;
 pub use slots::loading::{Both, read_both};
 pub use slots::pieces::Pieces;
+pub use slots::slot_pair::SlotPair;

@@ -11,7 +11,7 @@ ghost use Rattle.ug_checkpoint.specs.Recovery.{HasFound};
 use crate::body::Body;
 use crate::error::SaveError;
 use crate::found::Found;
-use crate::slots::keeper::Keeper;
+use crate::slots::slot_pair::SlotPair;
 use std::alloc::{AllocError, Global};
 use ug_disk::Disk;
 use ug_image::Image;
@@ -23,7 +23,7 @@ const BLOCK: usize = 65_536;
 /// Saves images, each over the one before the last.
 #[derive(Drop)]
 pub struct Saver {
-    keeper: Keeper,
+    slot_pair: SlotPair,
     sequence: u64,
 }
 
@@ -42,11 +42,11 @@ impl Saver {
     {
         match found {
             Some(found) => Saver {
-                keeper: Keeper::new(Some(found.slot)),
+                slot_pair: SlotPair::new(Some(found.slot)),
                 sequence: found.image.sequence,
             },
             None => Saver {
-                keeper: Keeper::new(None),
+                slot_pair: SlotPair::new(None),
                 sequence: 0,
             },
         }
@@ -103,7 +103,7 @@ impl Saver {
                 return Err(SaveError::from(error));
             }
         };
-        let saved = self.keeper.save(disk, &mut body, &mut buffer);
+        let saved = self.slot_pair.save(disk, &mut body, &mut buffer);
         drop(body);
         drop(buffer);
         saved?;

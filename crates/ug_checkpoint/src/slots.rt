@@ -7,7 +7,7 @@
 mod blocks;
 mod closing;
 mod gate;
-pub mod keeper;
 pub mod loading;
 pub mod pieces;
 mod saving;
+pub mod slot_pair;

@@ -1,4 +1,4 @@
--- A rank that is dead was taken for gone in one of the deeds.
+-- A rank that is dead was taken for gone in one of the actions.
 use Rattle.std.proofs.Common.{◌≡◌, ◌≢◌, ◌⊎◌, inl, inr, ℕ, zero, suc, ℤ, ◌<◌, Bool, true, false, List, [], ◌∷◌, map, Option, None, Some, refl, sym, ap, subst, ◌∙◌, arith}
 use Rattle.std.proofs.lemmas.Bool.{cases_Bool, false≢true}
 use Rattle.std.proofs.lemmas.List.{get_or-replicate, length-replicate}
@@ -28,7 +28,7 @@ use Rattle.ug_rules.specs.Ranks.{racers_freed, ranks_that}
 use Rattle.ug_book.specs.declared.opening.Opening.{Opening}
 use Rattle.ug_book.specs.Openings.{opening_book}
 use Rattle.ug_coord.specs.Causes.{HasCause, IsEndOf}
-use Rattle.ug_coord.specs.Deeds.{Broke, Came, Closed, Decided, Deed, Does, Halted, IsCourse, Kept as Saved, Launched, Lost, Passed, Sent, SetUp, HubState, Took, Unclosed, Unfed, Unread, Unsent, Unwritten}
+use Rattle.ug_coord.specs.Actions.{Broke, Came, Closed, Decided, Action, NextState, Halted, IsTrace, Kept as Saved, Launched, Lost, Passed, Sent, SetUp, CoordinatorState, Took, Unclosed, Unfed, Unread, Unsent, Unwritten}
 use Rattle.ug_coord.specs.Ends.{ranks_of}
 
 -- the rank is alive
@@ -323,7 +323,7 @@ heard_lives answer r report b rank mild alive =
       | inr other ↦ others_alive (is_deadly answer) r taken rank other now
     ])
 
--- ---- each deed
+-- ---- each action
 
 same_or_not : (a b : ℕ) → (a ≡ b) ⊎ (a ≢ b)
 same_or_not zero zero = inl refl
@@ -334,29 +334,29 @@ same_or_not (suc a) (suc b) = elim (same_or_not a b) [
   | inr other ↦ inr (λ same. other (omega (arith, same)))
 ]
 
--- the rank is alive still, or the deed is its end
-abbrev LivesOrEnds : HubState → Deed → HubState → ℕ → Type 0
-LivesOrEnds old deed new rank = Alive new.book.ranks rank ⊎ IsEndOf rank deed
+-- the rank is alive still, or the action is its end
+abbrev LivesOrEnds : CoordinatorState → Action → CoordinatorState → ℕ → Type 0
+LivesOrEnds old action new rank = Alive new.book.ranks rank ⊎ IsEndOf rank action
 
-still : (old new : HubState) (rank : ℕ) → new.book ≡ old.book → Alive old.book.ranks rank → Alive new.book.ranks rank
+still : (old new : CoordinatorState) (rank : ℕ) → new.book ≡ old.book → Alive old.book.ranks rank → Alive new.book.ranks rank
 still old new rank same alive = subst (λ (b : BookState). Alive b.ranks rank) (sym same) alive
 
 left : (old new : BookState) (rank : ℕ) → new.ranks ≡ old.ranks → Lives old new rank
 left old new rank same alive = subst (λ (states : List State). Alive states rank) (sym same) alive
 
-pub deed_lives : (old : HubState) (deed : Deed) (new : HubState) (rank : ℕ) → Does old deed new
-    → Alive old.book.ranks rank → LivesOrEnds old deed new rank
-deed_lives old (Launched other) new rank does alive =
-    inl (still old new rank (ap (λ (s : HubState). s.book) does.1) alive)
-deed_lives old (SetUp other bytes) new rank does alive =
-    inl (still old new rank (ap (λ (s : HubState). s.book) does.rest) alive)
-deed_lives old (Closed other) new rank does alive =
-    inl (still old new rank (ap (λ (s : HubState). s.book) does.rest) alive)
-deed_lives old (Came other bytes) new rank does alive =
-    inl (still old new rank (ap (λ (s : HubState). s.book) does.rest) alive)
-deed_lives old (Took other report answer) new rank does alive =
+pub action_lives : (old : CoordinatorState) (action : Action) (new : CoordinatorState) (rank : ℕ) → NextState old action new
+    → Alive old.book.ranks rank → LivesOrEnds old action new rank
+action_lives old (Launched other) new rank does alive =
+    inl (still old new rank (ap (λ (s : CoordinatorState). s.book) does.1) alive)
+action_lives old (SetUp other bytes) new rank does alive =
+    inl (still old new rank (ap (λ (s : CoordinatorState). s.book) does.rest) alive)
+action_lives old (Closed other) new rank does alive =
+    inl (still old new rank (ap (λ (s : CoordinatorState). s.book) does.rest) alive)
+action_lives old (Came other bytes) new rank does alive =
+    inl (still old new rank (ap (λ (s : CoordinatorState). s.book) does.rest) alive)
+action_lives old (Took other report answer) new rank does alive =
     let heard = λ (mild : (is_deadly answer ≡ false) ⊎ (other ≢ rank)).
-    subst (λ (s : HubState). Alive s.book.ranks rank) (sym does.rest)
+    subst (λ (s : CoordinatorState). Alive s.book.ranks rank) (sym does.rest)
     (heard_lives answer other report old.book rank mild alive) in
     elim (same_or_not other rank) [
       | inl same ↦ elim (cases_Bool (is_deadly answer)) [
@@ -365,55 +365,55 @@ deed_lives old (Took other report answer) new rank does alive =
       ]
       | inr differ ↦ inl (heard (inr differ))
     ]
-deed_lives old (Lost other cause) new rank does alive = elim (same_or_not other rank) [
+action_lives old (Lost other cause) new rank does alive = elim (same_or_not other rank) [
   | inl same ↦ inr same
   | inr differ ↦ inl (subst (λ (b : BookState). Alive b.ranks rank) (sym does.book)
       (killed_lives other old.book rank differ alive))
 ]
-deed_lives old Decided new rank does alive = inl (decided_lives old.book new.book rank does.is alive)
-deed_lives old (Sent other order) new rank does alive =
+action_lives old Decided new rank does alive = inl (decided_lives old.book new.book rank does.is alive)
+action_lives old (Sent other order) new rank does alive =
     inl (left old.book new.book rank (ap (λ (b : BookState). b.ranks) does.told.rest) alive)
-deed_lives old (Unsent other order) new rank does alive = elim (same_or_not other rank) [
+action_lives old (Unsent other order) new rank does alive = elim (same_or_not other rank) [
   | inl same ↦ inr same
-  | inr differ ↦ inl (subst (λ (s : HubState). Alive s.book.ranks rank) (sym does.rest)
+  | inr differ ↦ inl (subst (λ (s : CoordinatorState). Alive s.book.ranks rank) (sym does.rest)
       (killed_lives other does.without rank differ
       (left old.book does.without rank (ap (λ (b : BookState). b.ranks) does.told.rest) alive)))
 ]
-deed_lives old (Passed other order) new rank does alive =
+action_lives old (Passed other order) new rank does alive =
     inl (left old.book new.book rank (ap (λ (b : BookState). b.ranks) does.told.rest) alive)
-deed_lives old Broke new rank does alive =
-    inl (still old new rank (ap (λ (s : HubState). s.book) does.rest) alive)
-deed_lives old (Unclosed other) new rank does alive =
-    inl (still old new rank (ap (λ (s : HubState). s.book) does.rest) alive)
-deed_lives old (Halted steps) new rank does alive = inl (stands_lives steps old.book new.book rank does.is alive)
-deed_lives old (Unwritten other order) new rank does alive =
+action_lives old Broke new rank does alive =
+    inl (still old new rank (ap (λ (s : CoordinatorState). s.book) does.rest) alive)
+action_lives old (Unclosed other) new rank does alive =
+    inl (still old new rank (ap (λ (s : CoordinatorState). s.book) does.rest) alive)
+action_lives old (Halted steps) new rank does alive = inl (stands_lives steps old.book new.book rank does.is alive)
+action_lives old (Unwritten other order) new rank does alive =
     inl (left old.book new.book rank (ap (λ (b : BookState). b.ranks) does.told.rest) alive)
-deed_lives old (Unfed other bytes) new rank does alive =
-    inl (still old new rank (ap (λ (s : HubState). s.book) does.rest) alive)
-deed_lives old Unread new rank does alive =
-    inl (still old new rank (ap (λ (s : HubState). s.book) does.1) alive)
-deed_lives old Saved new rank does alive =
-    inl (still old new rank (ap (λ (s : HubState). s.book) does.rest) alive)
+action_lives old (Unfed other bytes) new rank does alive =
+    inl (still old new rank (ap (λ (s : CoordinatorState). s.book) does.rest) alive)
+action_lives old Unread new rank does alive =
+    inl (still old new rank (ap (λ (s : CoordinatorState). s.book) does.1) alive)
+action_lives old Saved new rank does alive =
+    inl (still old new rank (ap (λ (s : CoordinatorState). s.book) does.rest) alive)
 
-behind : (rank : ℕ) (deed : Deed) (deeds : List Deed) → HasCause rank deeds → HasCause rank (deed ∷ deeds)
-behind rank deed deeds cause =
-    record { deed = cause.deed; among = Contains-append_right (deed ∷ []) deeds cause.deed cause.among; ends = cause.ends }
+behind : (rank : ℕ) (action : Action) (actions : List Action) → HasCause rank actions → HasCause rank (action ∷ actions)
+behind rank action actions cause =
+    record { action = cause.action; among = Contains-append_right (action ∷ []) actions cause.action cause.among; ends = cause.ends }
 
--- it is alive at the end, or one of the deeds was its end
-course_lives : (old : HubState) (deeds : List Deed) (new : HubState) (rank : ℕ) → IsCourse old deeds new
-    → Alive old.book.ranks rank → Alive new.book.ranks rank ⊎ HasCause rank deeds
-course_lives old [] new rank same alive = inl (still old new rank (ap (λ (s : HubState). s.book) same) alive)
-course_lives old (deed ∷ deeds) new rank (mid, does, more) alive = elim (deed_lives old deed mid rank does alive) [
-  | inl lives ↦ elim (course_lives mid deeds new rank more lives) [
+-- it is alive at the end, or one of the actions was its end
+trace_lives : (old : CoordinatorState) (actions : List Action) (new : CoordinatorState) (rank : ℕ) → IsTrace old actions new
+    → Alive old.book.ranks rank → Alive new.book.ranks rank ⊎ HasCause rank actions
+trace_lives old [] new rank same alive = inl (still old new rank (ap (λ (s : CoordinatorState). s.book) same) alive)
+trace_lives old (action ∷ actions) new rank (mid, does, more) alive = elim (action_lives old action mid rank does alive) [
+  | inl lives ↦ elim (trace_lives mid actions new rank more lives) [
     | inl now ↦ inl now
-    | inr cause ↦ inr (behind rank deed deeds cause)
+    | inr cause ↦ inr (behind rank action actions cause)
   ]
-  | inr ends ↦ inr (record { deed = deed; among = Contains-append_left (deed ∷ []) deeds deed (Contains-push [] deed); ends = ends })
+  | inr ends ↦ inr (record { action = action; among = Contains-append_left (action ∷ []) actions action (Contains-push [] action); ends = ends })
 ]
 
-pub dead_has_cause : (old : HubState) (deeds : List Deed) (new : HubState) (rank : ℕ) → IsCourse old deeds new
-    → Alive old.book.ranks rank → is_alive (state_at new.book.ranks rank) ≡ false → HasCause rank deeds
-dead_has_cause old deeds new rank course alive dead = elim (course_lives old deeds new rank course alive) [
+pub dead_has_cause : (old : CoordinatorState) (actions : List Action) (new : CoordinatorState) (rank : ℕ) → IsTrace old actions new
+    → Alive old.book.ranks rank → is_alive (state_at new.book.ranks rank) ≡ false → HasCause rank actions
+dead_has_cause old actions new rank trace alive dead = elim (trace_lives old actions new rank trace alive) [
   | inl now ↦ absurd (false≢true (sym dead ∙ now))
   | inr cause ↦ cause
 ]

@@ -23,9 +23,9 @@ use Rattle.ug_rules.specs.Hearing.{after_hearing, counted, counted_under, done_a
 use Rattle.ug_rules.specs.Ranks.{ranks_that}
 use Rattle.ug_book.specs.Reads.{IsOrderTold}
 use Rattle.ug_book.specs.Views.{IsSameRun}
-use Rattle.ug_coord.specs.Deeds.{Broke, Came, Closed, Decided, Deed, Does, Halted, IsCourse, Kept as Saved, Launched, Lost, Passed, Sent, SetUp, HubState, Took, Unclosed, Unfed, Unread, Unsent, Unwritten}
+use Rattle.ug_coord.specs.Actions.{Broke, Came, Closed, Decided, Action, NextState, Halted, IsTrace, Kept as Saved, Launched, Lost, Passed, Sent, SetUp, CoordinatorState, Took, Unclosed, Unfed, Unread, Unsent, Unwritten}
 use Rattle.ug_coord.specs.Ends.{IsOver}
-use Rattle.ug_coord.specs.Hubs.{HearsOne, HubSeen, IsOneMore, IsQuiet}
+use Rattle.ug_coord.specs.Coordinators.{HearsOne, CoordinatorSeen, IsOneMore, IsQuiet}
 use Rattle.ug_coord.proofs.Kept.{run_on, same_of}
 
 -- how many reports were received, and the settings
@@ -215,29 +215,29 @@ heard_one answer r report b =
 
 -- ---- what a coordinator's calls do
 
-quiet_by : (old new : HubSeen) → IsSameRun old.book new.book → Same old.book new.book
+quiet_by : (old new : CoordinatorSeen) → IsSameRun old.book new.book → Same old.book new.book
     → new.pacing ≡ old.pacing → IsQuiet old new
 quiet_by old new run same pacing =
     record { run = run; heard = ap (λ (t : Tally). t.heard) same; pacing = pacing }
 
-pub lost_quiet : (r : ℕ) (old new : HubSeen) → IsSameRun old.book new.book
+pub lost_quiet : (r : ℕ) (old new : CoordinatorSeen) → IsSameRun old.book new.book
     → new.book ≡ killed r old.book → new.pacing ≡ old.pacing → IsQuiet old new
 lost_quiet r old new run is = quiet_by old new run (ap tally is ∙ killed_same r old.book)
 
-pub decided_quiet : (old new : HubSeen) → IsSameRun old.book new.book → IsDecided old.book new.book
+pub decided_quiet : (old new : CoordinatorSeen) → IsSameRun old.book new.book → IsDecided old.book new.book
     → new.pacing ≡ old.pacing → IsQuiet old new
 decided_quiet old new run is = quiet_by old new run (decided_same old.book new.book is)
 
-pub stands_quiet : (steps : ℕ) (old new : HubSeen) → IsSameRun old.book new.book
+pub stands_quiet : (steps : ℕ) (old new : CoordinatorSeen) → IsSameRun old.book new.book
     → Stands steps old.book new.book → new.pacing ≡ old.pacing → IsQuiet old new
 stands_quiet steps old new run stands =
     quiet_by old new run (stands_same steps old.book new.book stands)
 
-pub left_quiet : (old new : HubSeen) (told : Told) → IsSameRun old.book new.book
+pub left_quiet : (old new : CoordinatorSeen) (told : Told) → IsSameRun old.book new.book
     → IsOrderTold old.book new.book told → new.pacing ≡ old.pacing → IsQuiet old new
 left_quiet old new told run is = quiet_by old new run (left_same old.book new.book told is)
 
-pub heard_by : (answer : Heard) (r : ℕ) (report : Report) (old new : HubSeen)
+pub heard_by : (answer : Heard) (r : ℕ) (report : Report) (old new : CoordinatorSeen)
     → IsSameRun old.book new.book → new.book ≡ after_hearing answer r report old.book
     → new.pacing ≡ old.pacing → HearsOne old new
 heard_by answer r report old new run is pacing = record {
@@ -248,23 +248,23 @@ heard_by answer r report old new run is pacing = record {
 }
 
 -- if neither the book nor its pacing changed
-pub quiet_none : (old new : HubSeen) → new.book ≡ old.book → new.pacing ≡ old.pacing
+pub quiet_none : (old new : CoordinatorSeen) → new.book ≡ old.book → new.pacing ≡ old.pacing
     → IsQuiet old new
 quiet_none old new same pacing =
     quiet_by old new (same_of old.book new.book same) (ap tally same) pacing
 
-pub quiet_on : (a b c : HubSeen) → IsQuiet a b → IsQuiet b c → IsQuiet a c
+pub quiet_on : (a b c : CoordinatorSeen) → IsQuiet a b → IsQuiet b c → IsQuiet a c
 quiet_on a b c one two = record {
   run = run_on a.book b.book c.book one.run two.run;
   heard = two.heard ∙ one.heard;
   pacing = two.pacing ∙ one.pacing;
 }
 
-pub quiet_one : (old new : HubSeen) → IsQuiet old new → HearsOne old new
+pub quiet_one : (old new : CoordinatorSeen) → IsQuiet old new → HearsOne old new
 quiet_one old new quiet =
     record { run = quiet.run; heard = inl quiet.heard; pacing = quiet.pacing }
 
-pub hears_after : (a b c : HubSeen) → IsQuiet a b → HearsOne b c → HearsOne a c
+pub hears_after : (a b c : CoordinatorSeen) → IsQuiet a b → HearsOne b c → HearsOne a c
 hears_after a b c quiet hears = record {
   run = run_on a.book b.book c.book quiet.run hears.run;
   heard = subst (λ (heard : ℕ). IsOneMore heard c.book.heard) quiet.heard hears.heard;
@@ -272,7 +272,7 @@ hears_after a b c quiet hears = record {
 }
 
 -- and then what a step receives
-pub steps_after : (result : Bool) (a b c : HubSeen) → IsQuiet a b
+pub steps_after : (result : Bool) (a b c : CoordinatorSeen) → IsQuiet a b
     → MatchBool result (HearsOne b c) (IsQuiet b c)
     → MatchBool result (HearsOne a c) (IsQuiet a c)
 steps_after true a b c quiet hears = hears_after a b c quiet hears
@@ -300,51 +300,51 @@ one_within old new one below = elim one.heard [
   | inr more ↦ omega (arith, below, more, ap (λ (s : Settings). s.limit) one.settings)
 ]
 
-book_within : (old new : HubState) → (f : new.book ≡ old.book) → IsWithin old.book → IsWithin new.book
+book_within : (old new : CoordinatorState) → (f : new.book ≡ old.book) → IsWithin old.book → IsWithin new.book
 book_within old new same within = same_within old.book new.book (ap tally same) within
 
-deed_within : (old : HubState) (deed : Deed) (new : HubState) → Does old deed new → IsWithin old.book
+action_within : (old : CoordinatorState) (action : Action) (new : CoordinatorState) → NextState old action new → IsWithin old.book
     → IsWithin new.book
-deed_within old (Launched rank) new does within =
-    book_within old new (ap (λ (s : HubState). s.book) does.1) within
-deed_within old (SetUp rank bytes) new does within =
-    book_within old new (ap (λ (s : HubState). s.book) does.rest) within
-deed_within old (Closed rank) new does within =
-    book_within old new (ap (λ (s : HubState). s.book) does.rest) within
-deed_within old (Came rank bytes) new does within =
-    book_within old new (ap (λ (s : HubState). s.book) does.rest) within
-deed_within old (Took rank report answer) new does within =
-    subst (λ (s : HubState). IsWithin s.book) (sym does.rest)
+action_within old (Launched rank) new does within =
+    book_within old new (ap (λ (s : CoordinatorState). s.book) does.1) within
+action_within old (SetUp rank bytes) new does within =
+    book_within old new (ap (λ (s : CoordinatorState). s.book) does.rest) within
+action_within old (Closed rank) new does within =
+    book_within old new (ap (λ (s : CoordinatorState). s.book) does.rest) within
+action_within old (Came rank bytes) new does within =
+    book_within old new (ap (λ (s : CoordinatorState). s.book) does.rest) within
+action_within old (Took rank report answer) new does within =
+    subst (λ (s : CoordinatorState). IsWithin s.book) (sym does.rest)
     (one_within old.book (after_hearing answer rank report old.book) (heard_one answer rank report old.book)
     (below_limit old.book does.reading.settled.more))
-deed_within old (Lost rank cause) new does within =
+action_within old (Lost rank cause) new does within =
     same_within old.book new.book (ap tally does.book ∙ killed_same rank old.book) within
-deed_within old Decided new does within =
+action_within old Decided new does within =
     same_within old.book new.book (decided_same old.book new.book does.is) within
-deed_within old (Sent rank order) new does within =
+action_within old (Sent rank order) new does within =
     same_within old.book new.book (left_same old.book new.book _ does.told) within
-deed_within old (Unsent rank order) new does within =
-    same_within old.book new.book (ap (λ (s : HubState). tally s.book) does.rest
+action_within old (Unsent rank order) new does within =
+    same_within old.book new.book (ap (λ (s : CoordinatorState). tally s.book) does.rest
     ∙ killed_same rank does.without ∙ left_same old.book does.without _ does.told) within
-deed_within old (Passed rank order) new does within =
+action_within old (Passed rank order) new does within =
     same_within old.book new.book (left_same old.book new.book _ does.told) within
-deed_within old Broke new does within =
-    book_within old new (ap (λ (s : HubState). s.book) does.rest) within
-deed_within old (Unclosed rank) new does within =
-    book_within old new (ap (λ (s : HubState). s.book) does.rest) within
-deed_within old (Halted steps) new does within =
+action_within old Broke new does within =
+    book_within old new (ap (λ (s : CoordinatorState). s.book) does.rest) within
+action_within old (Unclosed rank) new does within =
+    book_within old new (ap (λ (s : CoordinatorState). s.book) does.rest) within
+action_within old (Halted steps) new does within =
     same_within old.book new.book (stands_same steps old.book new.book does.is) within
-deed_within old (Unwritten rank order) new does within =
+action_within old (Unwritten rank order) new does within =
     same_within old.book new.book (left_same old.book new.book _ does.told) within
-deed_within old (Unfed rank bytes) new does within =
-    book_within old new (ap (λ (s : HubState). s.book) does.rest) within
-deed_within old Unread new does within =
-    book_within old new (ap (λ (s : HubState). s.book) does.1) within
-deed_within old Saved new does within =
-    book_within old new (ap (λ (s : HubState). s.book) does.rest) within
+action_within old (Unfed rank bytes) new does within =
+    book_within old new (ap (λ (s : CoordinatorState). s.book) does.rest) within
+action_within old Unread new does within =
+    book_within old new (ap (λ (s : CoordinatorState). s.book) does.1) within
+action_within old Saved new does within =
+    book_within old new (ap (λ (s : CoordinatorState). s.book) does.rest) within
 
-pub course_within : (old : HubState) (deeds : List Deed) (new : HubState) → IsCourse old deeds new
+pub trace_within : (old : CoordinatorState) (actions : List Action) (new : CoordinatorState) → IsTrace old actions new
     → IsWithin old.book → IsWithin new.book
-course_within old [] new same within = book_within old new (ap (λ (s : HubState). s.book) same) within
-course_within old (deed ∷ deeds) new (mid, does, more) within =
-    course_within mid deeds new more (deed_within old deed mid does within)
+trace_within old [] new same within = book_within old new (ap (λ (s : CoordinatorState). s.book) same) within
+trace_within old (action ∷ actions) new (mid, does, more) within =
+    trace_within mid actions new more (action_within old action mid does within)

@@ -26,27 +26,27 @@ use Rattle.ug_rules.specs.Deciding.{IsDecided, Stands}
 use Rattle.ug_rules.specs.Hearing.{IsDue, after_hearing}
 use Rattle.ug_book.specs.Reads.{IsOrderTold}
 use Rattle.ug_book.specs.Views.{IsSameRun}
-use Rattle.ug_coord.specs.Deeds.{AreReadOut, Broke, Came, Closing, Decided, Deciding, Deed, Does, Ended, Failed, Halted, Hearing, IsCourse, IsHearing, IsMoreWanted, IsReading, Kept, Launched, Lost, MayBeRead, MayDecide, Nonsense, Passed, Reading, Sent, SetUp, HubState, Took, Unfed, Unread, Unsent, Unwritten}
+use Rattle.ug_coord.specs.Actions.{AreReadOut, Broke, Came, Closing, Decided, Deciding, Action, NextState, Ended, Failed, Halted, Hearing, IsTrace, IsHearing, IsMoreWanted, IsReading, Kept, Launched, Lost, MayBeRead, MayDecide, Nonsense, Passed, Reading, Sent, SetUp, CoordinatorState, Took, Unfed, Unread, Unsent, Unwritten}
 use Rattle.ug_coord.specs.declared.pacing.Pacing.{Pacing}
 use Rattle.ug_coord.specs.Pacing.{IsSaveDue, saved_at}
 use Rattle.ug_coord.specs.Ends.{IsOver, ranks_of}
 use Rattle.ug_stream.specs.declared.next.Next.TheVariants.{BadFrame, Message, NeedMore}
 use Rattle.ug_coord.specs.Reading.{HasBroken, HasFed, HasGone, HasLacked, HasRead}
-use Rattle.ug_coord.specs.Hubs.{AnyPhase, HasCome, HasFailed, HasHeardReport, HasSentTo, HubSeen, IsBrokenOff, IsFit, IsFresh, IsOnAs, IsOnIn, IsRested, IsSetUpFrame, MayRead, Phase, beginning, is_next, sent_or_failed, standing, without}
+use Rattle.ug_coord.specs.Coordinators.{AnyPhase, Reaches, HasFailed, HasHeardReport, HasSentTo, CoordinatorSeen, IsBrokenOff, IsFit, IsFresh, IsOnAs, IsOnIn, IsRested, IsSetUpFrame, MayRead, Phase, beginning, is_next, sent_or_failed, coordinator_state, without}
 
--- ---- one deed more
+-- ---- one action more
 
-abbrev pub course_more : (a : HubState) (deeds : List Deed) (b c : HubState) (deed : Deed) → IsCourse a deeds b
-    → Does b deed c → IsCourse a (deeds ++ deed ∷ []) c
-course_more a [] b c deed same does =
-    (c, subst (λ (old : HubState). Does old deed c) same does, refl)
-course_more a (one ∷ deeds) b c deed (mid, done, more) does =
-    (mid, done, course_more mid deeds b c deed more does)
+abbrev pub trace_more : (a : CoordinatorState) (actions : List Action) (b c : CoordinatorState) (action : Action) → IsTrace a actions b
+    → NextState b action c → IsTrace a (actions ++ action ∷ []) c
+trace_more a [] b c action same does =
+    (c, subst (λ (old : CoordinatorState). NextState old action c) same does, refl)
+trace_more a (one ∷ actions) b c action (mid, done, more) does =
+    (mid, done, trace_more mid actions b c action more does)
 
-abbrev pub come_more : (b old new : HubState) (deed : Deed) → HasCome b old → Does old deed new → HasCome b new
-come_more b old new deed h does = record {
-  deeds = h.deeds ++ deed ∷ [];
-  course = course_more b h.deeds old new deed h.course does;
+abbrev pub come_more : (b old new : CoordinatorState) (action : Action) → Reaches b old → NextState old action new → Reaches b new
+come_more b old new action h does = record {
+  actions = h.actions ++ action ∷ [];
+  trace = trace_more b h.actions old new action h.trace does;
 }
 
 pub said_more : (a b : Option (List Exchange)) (said more : List Exchange) → Adds a b more
@@ -58,39 +58,39 @@ said_more (Some s) b said more adds same =
     (ap (λ (t : List Exchange). t ++ more) same)
 
 -- in which something was said
-abbrev pub on_more : (phase after : Phase) (b : HubState) (old new : HubSeen) (deed : Deed) (more : List Exchange)
+abbrev pub on_more : (phase after : Phase) (b : CoordinatorState) (old new : CoordinatorSeen) (action : Action) (more : List Exchange)
     → Adds old.crew.said new.crew.said more
-    → ((said : List Exchange) → Does (standing said phase old) deed (standing (said ++ more) after new))
+    → ((said : List Exchange) → NextState (coordinator_state said phase old) action (coordinator_state (said ++ more) after new))
     → IsFit new → IsOnAs phase b old → IsOnAs after b new
-on_more phase after b old new deed more adds does fit on = record {
+on_more phase after b old new action more adds does fit on = record {
   said = on.said ++ more;
-  come = come_more b (standing on.said phase old) (standing (on.said ++ more) after new) deed on.come
+  come = come_more b (coordinator_state on.said phase old) (coordinator_state (on.said ++ more) after new) action on.come
       (does on.said);
   shown = said_more old.crew.said new.crew.said on.said more adds on.shown;
   fit = fit;
 }
 
 -- in which nothing was
-abbrev pub on_still : (phase after : Phase) (b : HubState) (old new : HubSeen) (deed : Deed)
+abbrev pub on_still : (phase after : Phase) (b : CoordinatorState) (old new : CoordinatorSeen) (action : Action)
     → new.crew.said ≡ old.crew.said
-    → ((said : List Exchange) → Does (standing said phase old) deed (standing said after new))
+    → ((said : List Exchange) → NextState (coordinator_state said phase old) action (coordinator_state said after new))
     → IsFit new → IsOnAs phase b old → IsOnAs after b new
-on_still phase after b old new deed still does fit on = record {
+on_still phase after b old new action still does fit on = record {
   said = on.said;
-  come = come_more b (standing on.said phase old) (standing on.said after new) deed on.come (does on.said);
+  come = come_more b (coordinator_state on.said phase old) (coordinator_state on.said after new) action on.come (does on.said);
   shown = subst (λ (told : Option (List Exchange)). IfSome told (λ t. t ≡ on.said)) (sym still) on.shown;
   fit = fit;
 }
 
 -- ---- when something is received
 
-hearing : (said : List Exchange) (phase : Phase) (h : HubSeen) → ¬ IsOver h.book → h.book.orders ≡ []
-    → phase.pace ≡ Hearing → AreReadOut h.streams → IsHearing (standing said phase h)
+hearing : (said : List Exchange) (phase : Phase) (h : CoordinatorSeen) → ¬ IsOver h.book → h.book.orders ≡ []
+    → phase.pace ≡ Hearing → AreReadOut h.streams → IsHearing (coordinator_state said phase h)
 hearing said phase h more told decided read =
     record { settled = record { more = more; told = told }; decided = decided; read = read }
 
-reading : (said : List Exchange) (phase : Phase) (h : HubSeen) → ¬ IsOver h.book → h.book.orders ≡ []
-    → MayBeRead phase.pace → IsReading (standing said phase h)
+reading : (said : List Exchange) (phase : Phase) (h : CoordinatorSeen) → ¬ IsOver h.book → h.book.orders ≡ []
+    → MayBeRead phase.pace → IsReading (coordinator_state said phase h)
 reading said phase h more told decided =
     record { settled = record { more = more; told = told }; decided = decided }
 
@@ -112,7 +112,7 @@ pub shut_still : (lives : List Bool) (rank : ℕ) → slice_index_or lives rank 
 shut_still lives rank away =
     ap (λ (alive : Bool). slice_set lives rank alive) (sym away) ∙ set-get_or lives rank false
 
-pub fit_without : (old new : HubSeen) (rank : ℕ) → new.crew.lives ≡ slice_set old.crew.lives rank false
+pub fit_without : (old new : CoordinatorSeen) (rank : ℕ) → new.crew.lives ≡ slice_set old.crew.lives rank false
     → new.streams ≡ old.streams → ranks_of new.book ≡ ranks_of old.book → IsFit old → IsFit new
 fit_without old new rank lives streams ranks fit = record {
   lives = ap (λ (l : List Bool). length l) lives ∙ length-set old.crew.lives rank false ∙ fit.lives ∙ sym ranks;
@@ -122,7 +122,7 @@ fit_without old new rank lives streams ranks fit = record {
 -- ---- a call of the crew
 
 -- the rank lives from now on, or does no longer
-pub set_by : (alive : Bool) (old : HubSeen) (crew : CrewSeen) (rank : ℕ)
+pub set_by : (alive : Bool) (old : CoordinatorSeen) (crew : CrewSeen) (rank : ℕ)
     → IsSetTo alive old.crew crew rank
     → crew.faults ≡ old.crew.faults
     → record old { crew = crew }
@@ -137,7 +137,7 @@ set_by alive old crew rank set calm =
     }) calm
 
 -- bytes were sent to it
-pub sent_by : (old : HubSeen) (crew : CrewSeen) (rank : ℕ) (bytes : List ℕ)
+pub sent_by : (old : CoordinatorSeen) (crew : CrewSeen) (rank : ℕ) (bytes : List ℕ)
     → HasSent old.crew crew rank bytes
     → crew.faults ≡ old.crew.faults → HasSentTo old (record old { crew = crew }) rank bytes
 sent_by old crew rank bytes sent calm = record {
@@ -152,13 +152,13 @@ only_faults a c silent =
     ∙ ap (λ (l : List Bool). record { said = a.said; lives = l; faults = c.faults }) silent.lives
 
 -- it failed, and so the rank was lost
-pub failed_by : (old : HubSeen) (crew : CrewSeen) (new : HubSeen) (rank : ℕ)
+pub failed_by : (old : CoordinatorSeen) (crew : CrewSeen) (new : CoordinatorSeen) (rank : ℕ)
     → IsSilent old.crew crew
     → Rose old.crew.faults crew.faults → rank < ranks_of old.book
     → new ≡ without rank (record old { crew = crew })
     → ranks_of new.book ≡ ranks_of old.book → HasFailed old new rank
 failed_by old crew new rank silent faults there lost ranks =
-    let calm : new.crew.faults ≡ crew.faults = ap (λ (h : HubSeen). h.crew.faults) lost in
+    let calm : new.crew.faults ≡ crew.faults = ap (λ (h : CoordinatorSeen). h.crew.faults) lost in
     record {
       there = there;
       faults = subst (λ (n : ℕ). Rose old.crew.faults n) (sym calm) faults;
@@ -174,75 +174,75 @@ failed_by old crew new rank silent faults there lost ranks =
 
 -- ---- a call failed
 
-abbrev pub failed_on : (phase : Phase) (b : HubState) (old new : HubSeen) (rank : ℕ) → HasFailed old new rank
+abbrev pub failed_on : (phase : Phase) (b : CoordinatorState) (old new : CoordinatorSeen) (rank : ℕ) → HasFailed old new rank
     → IsOnAs phase b old → IsOnAs phase b new
 failed_on phase b old new rank h on =
-    let lives = ap (λ (h : HubSeen). h.crew.lives) h.rest in
-    let streams = ap (λ (h : HubSeen). h.streams) h.rest in
-    on_still phase phase b old new (Lost rank Failed) (ap (λ (h : HubSeen). h.crew.said) h.rest)
+    let lives = ap (λ (h : CoordinatorSeen). h.crew.lives) h.rest in
+    let streams = ap (λ (h : CoordinatorSeen). h.streams) h.rest in
+    on_still phase phase b old new (Lost rank Failed) (ap (λ (h : CoordinatorSeen). h.crew.said) h.rest)
     (λ said. record {
       there = h.there;
       why = (refl, inr h.faults, streams);
       lives = lives;
       broken = refl;
-      wants = ap (λ (h : HubSeen). h.wants) h.rest;
+      wants = ap (λ (h : CoordinatorSeen). h.wants) h.rest;
       pace = refl;
-      pacing = ap (λ (h : HubSeen). h.pacing) h.rest;
-      book = ap (λ (h : HubSeen). h.book) h.rest;
+      pacing = ap (λ (h : CoordinatorSeen). h.pacing) h.rest;
+      book = ap (λ (h : CoordinatorSeen). h.book) h.rest;
     })
     (fit_without old new rank lives streams h.ranks on.fit) on
 
 -- a turn failed
-pub broke_on : (phase : Phase) (b : HubState) (old new : HubSeen) → ¬ IsOver old.book → old.book.orders ≡ []
+pub broke_on : (phase : Phase) (b : CoordinatorState) (old new : CoordinatorSeen) → ¬ IsOver old.book → old.book.orders ≡ []
     → phase.pace ≡ Hearing → AreReadOut old.streams → Rose old.crew.faults new.crew.faults
     → new ≡ record old { crew = record old.crew { faults = new.crew.faults } } → IsOnAs phase b old
     → IsOnAs (record { broken = true; pace = Closing }) b new
 broke_on phase b old new more told decided read faults rest on =
     let after : Phase = record { broken = true; pace = Closing } in
-    on_still phase after b old new Broke (ap (λ (h : HubSeen). h.crew.said) rest)
+    on_still phase after b old new Broke (ap (λ (h : CoordinatorSeen). h.crew.said) rest)
     (λ said. record {
       hearing = hearing said phase old more told decided read;
       faults = faults;
-      rest = ap (λ (h : HubSeen). standing said after h) rest;
+      rest = ap (λ (h : CoordinatorSeen). coordinator_state said after h) rest;
     })
     (record {
-      lives = ap (λ (h : HubSeen). length h.crew.lives) rest ∙ on.fit.lives
-          ∙ sym (ap (λ (h : HubSeen). ranks_of h.book) rest);
-      streams = ap (λ (h : HubSeen). length h.streams) rest ∙ on.fit.streams
-          ∙ sym (ap (λ (h : HubSeen). ranks_of h.book) rest);
+      lives = ap (λ (h : CoordinatorSeen). length h.crew.lives) rest ∙ on.fit.lives
+          ∙ sym (ap (λ (h : CoordinatorSeen). ranks_of h.book) rest);
+      streams = ap (λ (h : CoordinatorSeen). length h.streams) rest ∙ on.fit.streams
+          ∙ sym (ap (λ (h : CoordinatorSeen). ranks_of h.book) rest);
     }) on
 
 -- and so each rank is lost
-pub lost_on : (phase : Phase) (b : HubState) (old new : HubSeen) (rank : ℕ) → phase.broken ≡ true
+pub lost_on : (phase : Phase) (b : CoordinatorState) (old new : CoordinatorSeen) (rank : ℕ) → phase.broken ≡ true
     → rank < ranks_of old.book → new ≡ without rank old
     → ranks_of new.book ≡ ranks_of old.book → IsOnAs phase b old → IsOnAs phase b new
 lost_on phase b old new rank broken there rest ranks on =
-    let lives = ap (λ (h : HubSeen). h.crew.lives) rest in
-    let streams = ap (λ (h : HubSeen). h.streams) rest in
-    on_still phase phase b old new (Lost rank Failed) (ap (λ (h : HubSeen). h.crew.said) rest)
+    let lives = ap (λ (h : CoordinatorSeen). h.crew.lives) rest in
+    let streams = ap (λ (h : CoordinatorSeen). h.streams) rest in
+    on_still phase phase b old new (Lost rank Failed) (ap (λ (h : CoordinatorSeen). h.crew.said) rest)
     (λ said. record {
       there = there;
-      why = (refl, inl (broken, ap (λ (h : HubSeen). h.crew.faults) rest), streams);
+      why = (refl, inl (broken, ap (λ (h : CoordinatorSeen). h.crew.faults) rest), streams);
       lives = lives;
       broken = refl;
-      wants = ap (λ (h : HubSeen). h.wants) rest;
+      wants = ap (λ (h : CoordinatorSeen). h.wants) rest;
       pace = refl;
-      pacing = ap (λ (h : HubSeen). h.pacing) rest;
-      book = ap (λ (h : HubSeen). h.book) rest;
+      pacing = ap (λ (h : CoordinatorSeen). h.pacing) rest;
+      book = ap (λ (h : CoordinatorSeen). h.book) rest;
     })
     (fit_without old new rank lives streams ranks on.fit) on
 
 -- ---- orders
 
 -- the order left the book, and nothing else changed
-fit_book : (h : HubSeen) (before : BookState) → ranks_of h.book ≡ ranks_of before
+fit_book : (h : CoordinatorSeen) (before : BookState) → ranks_of h.book ≡ ranks_of before
     → IsFit (record h { book = before }) → IsFit h
 fit_book h before ranks fit = record { lives = fit.lives ∙ sym ranks; streams = fit.streams ∙ sym ranks }
 
 told_ranks : (old new : BookState) (told : Told) → IsOrderTold old new told → ranks_of new ≡ ranks_of old
 told_ranks old new told h = ap (λ (b : BookState). ranks_of b) h.rest
 
-pub passed_on : (phase : Phase) (b : HubState) (before : BookState) (h : HubSeen) (told : Told)
+pub passed_on : (phase : Phase) (b : CoordinatorState) (before : BookState) (h : CoordinatorSeen) (told : Told)
     → ¬ IsAlive h.crew told.rank → IsOrderTold before h.book told
     → IsOnAs phase b (record h { book = before }) → IsOnAs phase b h
 passed_on phase b before h told away left on =
@@ -250,12 +250,12 @@ passed_on phase b before h told away left on =
     (λ said. record { away = away_is h.crew told.rank away; told = left; rest = refl })
     (fit_book h before (told_ranks before h.book told left) on.fit) on
 
-pub sent_on : (phase : Phase) (b : HubState) (before : BookState) (h new : HubSeen) (told : Told)
+pub sent_on : (phase : Phase) (b : CoordinatorState) (before : BookState) (h new : CoordinatorSeen) (told : Told)
     → IsAlive h.crew told.rank → orders.IsCarried told.order → IsOrderTold before h.book told
     → HasSentTo h new told.rank (orders.spelled told.order)
     → IsOnAs phase b (record h { book = before }) → IsOnAs phase b new
 sent_on phase b before h new told alive carried left sent on =
-    let book = ap (λ (h : HubSeen). h.book) sent.rest in
+    let book = ap (λ (h : CoordinatorSeen). h.book) sent.rest in
     let left_new = subst (λ (book : BookState). IsOrderTold before book told) (sym book) left in
     on_more phase phase b (record h { book = before }) new (Sent told.rank told.order)
     (told_to told.rank (orders.spelled told.order)) sent.said
@@ -263,37 +263,37 @@ sent_on phase b before h new told alive carried left sent on =
       alive = alive.lives;
       carried = carried;
       told = left_new;
-      rest = ap (λ (n : HubSeen). standing (said ++ told_to told.rank (orders.spelled told.order)) phase
+      rest = ap (λ (n : CoordinatorSeen). coordinator_state (said ++ told_to told.rank (orders.spelled told.order)) phase
           (record n { book = new.book })) sent.rest;
     })
     (record {
-      lives = ap (λ (h : HubSeen). length h.crew.lives) sent.rest ∙ on.fit.lives
+      lives = ap (λ (h : CoordinatorSeen). length h.crew.lives) sent.rest ∙ on.fit.lives
           ∙ sym (told_ranks before new.book told left_new);
-      streams = ap (λ (h : HubSeen). length h.streams) sent.rest ∙ on.fit.streams
+      streams = ap (λ (h : CoordinatorSeen). length h.streams) sent.rest ∙ on.fit.streams
           ∙ sym (told_ranks before new.book told left_new);
     }) on
 
-pub unsent_on : (phase : Phase) (b : HubState) (before : BookState) (h new : HubSeen) (told : Told)
+pub unsent_on : (phase : Phase) (b : CoordinatorState) (before : BookState) (h new : CoordinatorSeen) (told : Told)
     → IsAlive h.crew told.rank → IsOrderTold before h.book told → HasFailed h new told.rank
     → IsOnAs phase b (record h { book = before }) → IsOnAs phase b new
 unsent_on phase b before h new told alive left failed on =
-    let lives = ap (λ (h : HubSeen). h.crew.lives) failed.rest in
-    let streams = ap (λ (h : HubSeen). h.streams) failed.rest in
+    let lives = ap (λ (h : CoordinatorSeen). h.crew.lives) failed.rest in
+    let streams = ap (λ (h : CoordinatorSeen). h.streams) failed.rest in
     let ranks = failed.ranks ∙ told_ranks before h.book told left in
     on_still phase phase b (record h { book = before }) new (Unsent told.rank told.order)
-    (ap (λ (h : HubSeen). h.crew.said) failed.rest)
+    (ap (λ (h : CoordinatorSeen). h.crew.said) failed.rest)
     (λ said. record {
       there = omega (arith, failed.there, told_ranks before h.book told left);
       alive = alive.lives;
       without = h.book;
       told = left;
       faults = failed.faults;
-      rest = ap (λ (n : HubSeen). standing said phase n) failed.rest;
+      rest = ap (λ (n : CoordinatorSeen). coordinator_state said phase n) failed.rest;
     })
     (fit_without (record h { book = before }) new told.rank lives streams ranks on.fit) on
 
 -- by the result of a call that sends
-pub told_on : (sent : Bool) (phase : Phase) (b : HubState) (before : BookState) (h new : HubSeen) (told : Told)
+pub told_on : (sent : Bool) (phase : Phase) (b : CoordinatorState) (before : BookState) (h new : CoordinatorSeen) (told : Told)
     → IsAlive h.crew told.rank → orders.IsCarried told.order → IsOrderTold before h.book told
     → sent_or_failed sent h new told.rank (orders.spelled told.order)
     → IsOnAs phase b (record h { book = before }) → IsOnAs phase b new
@@ -305,22 +305,22 @@ told_on false phase b before h new told alive carried left came on =
 -- ---- the start of a rank
 
 -- the rank was started
-abbrev pub launched_on : (phase : Phase) (b : HubState) (old new : HubSeen) (rank : ℕ)
+abbrev pub launched_on : (phase : Phase) (b : CoordinatorState) (old new : CoordinatorSeen) (rank : ℕ)
     → slice_index_or old.crew.lives rank false ≡ false
     → new ≡ record old { crew = record old.crew { lives = slice_set old.crew.lives rank true } }
     → IsOnAs phase b old → IsOnAs phase b new
 launched_on phase b old new rank away rest on =
-    on_still phase phase b old new (Launched rank) (ap (λ (h : HubSeen). h.crew.said) rest)
-    (λ said. (away, ap (λ (h : HubSeen). standing said phase h) rest))
+    on_still phase phase b old new (Launched rank) (ap (λ (h : CoordinatorSeen). h.crew.said) rest)
+    (λ said. (away, ap (λ (h : CoordinatorSeen). coordinator_state said phase h) rest))
     (record {
-      lives = ap (λ (h : HubSeen). length h.crew.lives) rest ∙ length-set old.crew.lives rank true ∙ on.fit.lives
-          ∙ sym (ap (λ (h : HubSeen). ranks_of h.book) rest);
-      streams = ap (λ (h : HubSeen). length h.streams) rest ∙ on.fit.streams
-          ∙ sym (ap (λ (h : HubSeen). ranks_of h.book) rest);
+      lives = ap (λ (h : CoordinatorSeen). length h.crew.lives) rest ∙ length-set old.crew.lives rank true ∙ on.fit.lives
+          ∙ sym (ap (λ (h : CoordinatorSeen). ranks_of h.book) rest);
+      streams = ap (λ (h : CoordinatorSeen). length h.streams) rest ∙ on.fit.streams
+          ∙ sym (ap (λ (h : CoordinatorSeen). ranks_of h.book) rest);
     }) on
 
 -- and sent the problem
-abbrev pub set_up_on : (sent : Bool) (phase : Phase) (b : HubState) (old new : HubSeen) (rank : ℕ) (frame : List ℕ)
+abbrev pub set_up_on : (sent : Bool) (phase : Phase) (b : CoordinatorState) (old new : CoordinatorSeen) (rank : ℕ) (frame : List ℕ)
     → IsAlive old.crew rank → IsSetUpFrame old.book frame → sent_or_failed sent old new rank frame
     → IsOnAs phase b old → IsOnAs phase b new
 set_up_on true phase b old new rank frame alive setup came on =
@@ -333,58 +333,58 @@ set_up_on true phase b old new rank frame alive setup came on =
       its = setup.its;
       carried = setup.carried;
       alive = alive.lives;
-      rest = ap (λ (h : HubSeen). standing
+      rest = ap (λ (h : CoordinatorSeen). coordinator_state
           (said ++ told_to rank (orders.spelled (Setup old.book.settings.gap setup.bytes))) phase h) came.rest;
     })
     (record {
-      lives = ap (λ (h : HubSeen). length h.crew.lives) came.rest ∙ on.fit.lives
-          ∙ sym (ap (λ (h : HubSeen). ranks_of h.book) came.rest);
-      streams = ap (λ (h : HubSeen). length h.streams) came.rest ∙ on.fit.streams
-          ∙ sym (ap (λ (h : HubSeen). ranks_of h.book) came.rest);
+      lives = ap (λ (h : CoordinatorSeen). length h.crew.lives) came.rest ∙ on.fit.lives
+          ∙ sym (ap (λ (h : CoordinatorSeen). ranks_of h.book) came.rest);
+      streams = ap (λ (h : CoordinatorSeen). length h.streams) came.rest ∙ on.fit.streams
+          ∙ sym (ap (λ (h : CoordinatorSeen). ranks_of h.book) came.rest);
     }) on
 set_up_on false phase b old new rank frame alive setup came on = failed_on phase b old new rank came on
 
 -- ---- decisions
 
-pub decided_on : (phase : Phase) (b : HubState) (old new : HubSeen) → ¬ IsOver old.book
+pub decided_on : (phase : Phase) (b : CoordinatorState) (old new : CoordinatorSeen) → ¬ IsOver old.book
     → ¬ IsSaveDue old.pacing old.book → MayDecide phase.pace
     → IsDecided old.book new.book → ranks_of new.book ≡ ranks_of old.book → new ≡ record old { book = new.book }
     → IsOnAs phase b old → IsOnAs (record { broken = phase.broken; pace = Hearing }) b new
 decided_on phase b old new more saved due is ranks rest on =
     let after : Phase = record { broken = phase.broken; pace = Hearing } in
-    on_still phase after b old new Decided (ap (λ (h : HubSeen). h.crew.said) rest)
+    on_still phase after b old new Decided (ap (λ (h : CoordinatorSeen). h.crew.said) rest)
     (λ said. record {
       deciding = record { more = more; due = due; saved = saved };
       is = is;
-      rest = ap (λ (h : HubSeen). standing said after h) rest;
+      rest = ap (λ (h : CoordinatorSeen). coordinator_state said after h) rest;
     })
     (record {
-      lives = ap (λ (h : HubSeen). length h.crew.lives) rest ∙ on.fit.lives ∙ sym ranks;
-      streams = ap (λ (h : HubSeen). length h.streams) rest ∙ on.fit.streams ∙ sym ranks;
+      lives = ap (λ (h : CoordinatorSeen). length h.crew.lives) rest ∙ on.fit.lives ∙ sym ranks;
+      streams = ap (λ (h : CoordinatorSeen). length h.streams) rest ∙ on.fit.streams ∙ sym ranks;
     }) on
 
 -- a decision was cut short
-pub halted_on : (phase : Phase) (b : HubState) (old new : HubSeen) (steps : ℕ) → ¬ IsOver old.book
+pub halted_on : (phase : Phase) (b : CoordinatorState) (old new : CoordinatorSeen) (steps : ℕ) → ¬ IsOver old.book
     → ¬ IsSaveDue old.pacing old.book → MayDecide phase.pace → Stands steps old.book new.book → ranks_of new.book ≡ ranks_of old.book
     → new ≡ record old { wants = true; book = new.book } → IsOnAs phase b old
     → IsOnAs (record { broken = phase.broken; pace = Hearing }) b new
 halted_on phase b old new steps more saved due is ranks rest on =
     let after : Phase = record { broken = phase.broken; pace = Hearing } in
-    on_still phase after b old new (Halted steps) (ap (λ (h : HubSeen). h.crew.said) rest)
+    on_still phase after b old new (Halted steps) (ap (λ (h : CoordinatorSeen). h.crew.said) rest)
     (λ said. record {
       deciding = record { more = more; due = due; saved = saved };
       is = is;
-      rest = ap (λ (h : HubSeen). standing said after h) rest;
+      rest = ap (λ (h : CoordinatorSeen). coordinator_state said after h) rest;
     })
     (record {
-      lives = ap (λ (h : HubSeen). length h.crew.lives) rest ∙ on.fit.lives ∙ sym ranks;
-      streams = ap (λ (h : HubSeen). length h.streams) rest ∙ on.fit.streams ∙ sym ranks;
+      lives = ap (λ (h : CoordinatorSeen). length h.crew.lives) rest ∙ on.fit.lives ∙ sym ranks;
+      streams = ap (λ (h : CoordinatorSeen). length h.streams) rest ∙ on.fit.streams ∙ sym ranks;
     }) on
 
 -- ---- what comes
 
 -- bytes, which were fed to the stream of their rank
-pub fed_on : (phase : Phase) (b : HubState) (old new : HubSeen) (rank : ℕ) → ¬ IsOver old.book
+pub fed_on : (phase : Phase) (b : CoordinatorState) (old new : CoordinatorSeen) (rank : ℕ) → ¬ IsOver old.book
     → old.book.orders ≡ [] → phase.pace ≡ Hearing → AreReadOut old.streams
     → HasFed old.crew new.crew old.streams new.streams rank → new.book ≡ old.book → new.wants ≡ old.wants
     → new.pacing ≡ old.pacing → IsOnAs phase b old
@@ -397,28 +397,28 @@ fed_on phase b old new rank more told decided read h book wants pacing on =
       hearing = hearing said phase old more told decided read;
       alive = h.alive.lives;
       rest =
-          ap (λ (l : List Bool). record (standing (said ++ heard_from rank h.bytes) after new) { lives = l }) h.lives
-          ∙ ap (λ (n : ℕ). record (standing (said ++ heard_from rank h.bytes) after new) { lives = old.crew.lives; faults = n })
+          ap (λ (l : List Bool). record (coordinator_state (said ++ heard_from rank h.bytes) after new) { lives = l }) h.lives
+          ∙ ap (λ (n : ℕ). record (coordinator_state (said ++ heard_from rank h.bytes) after new) { lives = old.crew.lives; faults = n })
           h.faults
-          ∙ ap (λ (l : List Waiting). record (standing (said ++ heard_from rank h.bytes) after old) {
+          ∙ ap (λ (l : List Waiting). record (coordinator_state (said ++ heard_from rank h.bytes) after old) {
             wants = new.wants;
             pacing = new.pacing;
             streams = l;
             book = new.book;
           })
           h.streams
-          ∙ ap (λ (book : BookState). record (standing (said ++ heard_from rank h.bytes) after old) {
+          ∙ ap (λ (book : BookState). record (coordinator_state (said ++ heard_from rank h.bytes) after old) {
             wants = new.wants;
             pacing = new.pacing;
             streams = slice_set old.streams rank (fed (slice_index_or old.streams rank first) h.bytes);
             book = book;
           }) book
-          ∙ ap (λ (w : Bool). record (standing (said ++ heard_from rank h.bytes) after old) {
+          ∙ ap (λ (w : Bool). record (coordinator_state (said ++ heard_from rank h.bytes) after old) {
             wants = w;
             pacing = new.pacing;
             streams = slice_set old.streams rank (fed (slice_index_or old.streams rank first) h.bytes);
           }) wants
-          ∙ ap (λ (p : Pacing). record (standing (said ++ heard_from rank h.bytes) after old) {
+          ∙ ap (λ (p : Pacing). record (coordinator_state (said ++ heard_from rank h.bytes) after old) {
             wants = old.wants;
             pacing = p;
             streams = slice_set old.streams rank (fed (slice_index_or old.streams rank first) h.bytes);
@@ -431,7 +431,7 @@ fed_on phase b old new rank more told decided read h book wants pacing on =
     }) on
 
 -- and could not be kept
-pub lacked_on : (phase : Phase) (b : HubState) (old new : HubSeen) (rank : ℕ) → ¬ IsOver old.book
+pub lacked_on : (phase : Phase) (b : CoordinatorState) (old new : CoordinatorSeen) (rank : ℕ) → ¬ IsOver old.book
     → old.book.orders ≡ [] → phase.pace ≡ Hearing → AreReadOut old.streams
     → HasLacked old.crew new.crew old.streams new.streams rank → new.book ≡ old.book → new.wants ≡ true
     → new.pacing ≡ old.pacing → IsOnAs phase b old
@@ -444,28 +444,28 @@ lacked_on phase b old new rank more told decided read h book wants pacing on =
       hearing = hearing said phase old more told decided read;
       alive = h.alive.lives;
       rest =
-          ap (λ (l : List Bool). record (standing (said ++ heard_from rank h.bytes) after new) { lives = l }) h.lives
-          ∙ ap (λ (n : ℕ). record (standing (said ++ heard_from rank h.bytes) after new) { lives = old.crew.lives; faults = n })
+          ap (λ (l : List Bool). record (coordinator_state (said ++ heard_from rank h.bytes) after new) { lives = l }) h.lives
+          ∙ ap (λ (n : ℕ). record (coordinator_state (said ++ heard_from rank h.bytes) after new) { lives = old.crew.lives; faults = n })
           h.faults
-          ∙ ap (λ (l : List Waiting). record (standing (said ++ heard_from rank h.bytes) after old) {
+          ∙ ap (λ (l : List Waiting). record (coordinator_state (said ++ heard_from rank h.bytes) after old) {
             wants = new.wants;
             pacing = new.pacing;
             streams = l;
             book = new.book;
           })
           h.streams
-          ∙ ap (λ (book : BookState). record (standing (said ++ heard_from rank h.bytes) after old) {
+          ∙ ap (λ (book : BookState). record (coordinator_state (said ++ heard_from rank h.bytes) after old) {
             wants = new.wants;
             pacing = new.pacing;
             streams = slice_set old.streams rank (shut (slice_index_or old.streams rank first));
             book = book;
           }) book
-          ∙ ap (λ (w : Bool). record (standing (said ++ heard_from rank h.bytes) after old) {
+          ∙ ap (λ (w : Bool). record (coordinator_state (said ++ heard_from rank h.bytes) after old) {
             wants = w;
             pacing = new.pacing;
             streams = slice_set old.streams rank (shut (slice_index_or old.streams rank first));
           }) wants
-          ∙ ap (λ (p : Pacing). record (standing (said ++ heard_from rank h.bytes) after old) {
+          ∙ ap (λ (p : Pacing). record (coordinator_state (said ++ heard_from rank h.bytes) after old) {
             wants = true;
             pacing = p;
             streams = slice_set old.streams rank (shut (slice_index_or old.streams rank first));
@@ -478,38 +478,38 @@ lacked_on phase b old new rank more told decided read h book wants pacing on =
     }) on
 
 -- a report, which is received
-pub took_on : (phase : Phase) (b : HubState) (old mid new : HubSeen) (rank : ℕ) (stream : Waiting) (report : Report)
+pub took_on : (phase : Phase) (b : CoordinatorState) (old mid new : CoordinatorSeen) (rank : ℕ) (stream : Waiting) (report : Report)
     → IsGiven reports.IsCarried reports.spelled (slice_index_or old.streams rank first) stream report
     → mid ≡ record old { streams = slice_set old.streams rank stream } → HasHeardReport mid new rank report
     → ¬ IsOver old.book → old.book.orders ≡ [] → MayBeRead phase.pace
     → IsOnAs phase b old → IsOnAs (record { broken = phase.broken; pace = Deciding }) b new
 took_on phase b old mid new rank stream report given step heard more told may on =
     let after : Phase = record { broken = phase.broken; pace = Deciding } in
-    let both = heard.rest ∙ ap (λ (h : HubSeen). record h {
+    let both = heard.rest ∙ ap (λ (h : CoordinatorSeen). record h {
       wants = new.wants;
       book = after_hearing heard.answer rank report h.book;
     }) step in
-    on_still phase after b old new (Took rank report heard.answer) (ap (λ (h : HubSeen). h.crew.said) both)
+    on_still phase after b old new (Took rank report heard.answer) (ap (λ (h : CoordinatorSeen). h.crew.said) both)
     (λ said. record {
-      there = omega (arith, heard.there, ap (λ (h : HubSeen). ranks_of h.book) step);
+      there = omega (arith, heard.there, ap (λ (h : CoordinatorSeen). ranks_of h.book) step);
       reading = reading said phase old more told may;
       stream = stream;
       given = given;
       due = subst (λ (book : BookState). IsDue book rank report heard.answer)
-          (ap (λ (h : HubSeen). h.book) step) heard.due;
-      wants = subst (λ (w : Bool). IsMoreWanted heard.answer w new.wants) (ap (λ (h : HubSeen). h.wants) step)
+          (ap (λ (h : CoordinatorSeen). h.book) step) heard.due;
+      wants = subst (λ (w : Bool). IsMoreWanted heard.answer w new.wants) (ap (λ (h : CoordinatorSeen). h.wants) step)
           heard.wants;
-      rest = ap (λ (h : HubSeen). standing said after h) both;
+      rest = ap (λ (h : CoordinatorSeen). coordinator_state said after h) both;
     })
     (record {
-      lives = ap (λ (h : HubSeen). length h.crew.lives) both ∙ on.fit.lives
-          ∙ sym (heard.ranks ∙ ap (λ (h : HubSeen). ranks_of h.book) step);
-      streams = ap (λ (h : HubSeen). length h.streams) both ∙ length-set old.streams rank stream ∙ on.fit.streams
-          ∙ sym (heard.ranks ∙ ap (λ (h : HubSeen). ranks_of h.book) step);
+      lives = ap (λ (h : CoordinatorSeen). length h.crew.lives) both ∙ on.fit.lives
+          ∙ sym (heard.ranks ∙ ap (λ (h : CoordinatorSeen). ranks_of h.book) step);
+      streams = ap (λ (h : CoordinatorSeen). length h.streams) both ∙ length-set old.streams rank stream ∙ on.fit.streams
+          ∙ sym (heard.ranks ∙ ap (λ (h : CoordinatorSeen). ranks_of h.book) step);
     }) on
 
 -- bytes that are no report
-pub nonsense_on : (phase : Phase) (b : HubState) (old mid new : HubSeen) (rank : ℕ) (stream : Waiting) (at : ℕ)
+pub nonsense_on : (phase : Phase) (b : CoordinatorState) (old mid new : CoordinatorSeen) (rank : ℕ) (stream : Waiting) (at : ℕ)
     → IsBadAt reports.IsCarried reports.spelled (slice_index_or old.streams rank first) stream at
     → mid ≡ record old { streams = slice_set old.streams rank stream } → new ≡ without rank mid
     → ranks_of new.book ≡ ranks_of mid.book → rank < ranks_of old.book
@@ -518,8 +518,8 @@ pub nonsense_on : (phase : Phase) (b : HubState) (old mid new : HubSeen) (rank :
 nonsense_on phase b old mid new rank stream at bad step lost ranks there more told may on =
     let after : Phase = record { broken = phase.broken; pace = Deciding } in
     let both = lost ∙ ap (without rank) step in
-    let wide = ranks ∙ ap (λ (h : HubSeen). ranks_of h.book) step in
-    on_still phase after b old new (Lost rank Nonsense) (ap (λ (h : HubSeen). h.crew.said) both)
+    let wide = ranks ∙ ap (λ (h : CoordinatorSeen). ranks_of h.book) step in
+    on_still phase after b old new (Lost rank Nonsense) (ap (λ (h : CoordinatorSeen). h.crew.said) both)
     (λ said. record {
       there = there;
       why = record {
@@ -528,25 +528,25 @@ nonsense_on phase b old mid new rank stream at bad step lost ranks there more to
         stream = stream;
         at = at;
         bad = bad;
-        streams = ap (λ (h : HubSeen). h.streams) both;
-        faults = ap (λ (h : HubSeen). h.crew.faults) both;
+        streams = ap (λ (h : CoordinatorSeen). h.streams) both;
+        faults = ap (λ (h : CoordinatorSeen). h.crew.faults) both;
       };
-      lives = ap (λ (h : HubSeen). h.crew.lives) both;
+      lives = ap (λ (h : CoordinatorSeen). h.crew.lives) both;
       broken = refl;
-      wants = ap (λ (h : HubSeen). h.wants) both;
+      wants = ap (λ (h : CoordinatorSeen). h.wants) both;
       pace = refl;
-      pacing = ap (λ (h : HubSeen). h.pacing) both;
-      book = ap (λ (h : HubSeen). h.book) both;
+      pacing = ap (λ (h : CoordinatorSeen). h.pacing) both;
+      book = ap (λ (h : CoordinatorSeen). h.book) both;
     })
     (record {
-      lives = ap (λ (h : HubSeen). length h.crew.lives) both ∙ length-set old.crew.lives rank false ∙ on.fit.lives
+      lives = ap (λ (h : CoordinatorSeen). length h.crew.lives) both ∙ length-set old.crew.lives rank false ∙ on.fit.lives
           ∙ sym wide;
-      streams = ap (λ (h : HubSeen). length h.streams) both ∙ length-set old.streams rank stream ∙ on.fit.streams
+      streams = ap (λ (h : CoordinatorSeen). length h.streams) both ∙ length-set old.streams rank stream ∙ on.fit.streams
           ∙ sym wide;
     }) on
 
 -- word that a rank is lost
-pub gone_on : (phase : Phase) (b : HubState) (old new : HubSeen) (rank : ℕ)
+pub gone_on : (phase : Phase) (b : CoordinatorState) (old new : CoordinatorSeen) (rank : ℕ)
     → rank < ranks_of old.book → slice_index_or old.crew.lives rank false ≡ true
     → Adds old.crew.said new.crew.said (Gone rank ∷ []) → Rose old.crew.faults new.crew.faults
     → new.crew.lives ≡ slice_set old.crew.lives rank false → new.streams ≡ old.streams
@@ -594,7 +594,7 @@ frame_still {Z} old new before after run frame h =
 
 -- ---- reading a stream
 
-pub took_by : (b : HubState) (old mid new : HubSeen) (rank : ℕ) (report : Report) → ¬ IsOver old.book
+pub took_by : (b : CoordinatorState) (old mid new : CoordinatorSeen) (rank : ℕ) (report : Report) → ¬ IsOver old.book
     → old.book.orders ≡ []
     → HasRead old.streams mid.streams rank (Message report) → mid ≡ record old { streams = mid.streams }
     → HasHeardReport mid new rank report → IsOnIn MayRead b old → IsOnIn (is_next Deciding) b new
@@ -606,7 +606,7 @@ took_by b old mid new rank report more told read rest heard (phase, may, on) = (
 )
 
 -- a frame that is cut short stays
-pub still_by : (phase : Phase) (b : HubState) (old new : HubSeen) (rank : ℕ)
+pub still_by : (phase : Phase) (b : CoordinatorState) (old new : CoordinatorSeen) (rank : ℕ)
     → HasRead old.streams new.streams rank NeedMore
     → new ≡ record old { streams = new.streams } → IsOnAs phase b old → IsOnAs phase b new
 still_by phase b old new rank read rest on =
@@ -614,7 +614,7 @@ still_by phase b old new rank read rest on =
     ∙ ap (λ (w : Waiting). record old { streams = slice_set old.streams rank w }) read.is.same
     ∙ ap (λ (l : List Waiting). record old { streams = l }) (set-get_or old.streams rank first))) on
 
-pub nonsense_by : (b : HubState) (old mid new : HubSeen) (rank at : ℕ) → ¬ IsOver old.book
+pub nonsense_by : (b : CoordinatorState) (old mid new : CoordinatorSeen) (rank at : ℕ) → ¬ IsOver old.book
     → old.book.orders ≡ []
     → HasRead old.streams mid.streams rank (BadFrame at) → mid ≡ record old { streams = mid.streams }
     → new ≡ without rank mid → ranks_of new.book ≡ ranks_of mid.book → rank < ranks_of old.book
@@ -627,7 +627,7 @@ nonsense_by b old mid new rank at more told read rest lost ranks there (phase, m
 )
 
 -- a report could not be read
-pub unread_by : (b : HubState) (old new : HubSeen) → ¬ IsOver old.book → old.book.orders ≡ []
+pub unread_by : (b : CoordinatorState) (old new : CoordinatorSeen) → ¬ IsOver old.book → old.book.orders ≡ []
     → new ≡ record old { wants = true; streams = new.streams } → new.streams ≡ old.streams → IsOnIn MayRead b old
     → IsOnIn (is_next Deciding) b new
 unread_by b old new more told rest streams (phase, may, on) =
@@ -636,15 +636,15 @@ unread_by b old new more told rest streams (phase, may, on) =
     rest ∙ ap (λ (l : List Waiting). record old { wants = true; streams = l }) streams in (
       after,
       refl,
-      on_still phase after b old new Unread (ap (λ (h : HubSeen). h.crew.said) same)
-          (λ said. (reading said phase old more told may, ap (λ (h : HubSeen). standing said after h) same))
+      on_still phase after b old new Unread (ap (λ (h : CoordinatorSeen). h.crew.said) same)
+          (λ said. (reading said phase old more told may, ap (λ (h : CoordinatorSeen). coordinator_state said after h) same))
           (subst IsFit (sym same) (record { lives = on.fit.lives; streams = on.fit.streams })) on,
     )
 
 -- ---- a turn
 
 -- bytes came
-pub fed_by : (b : HubState) (old new : HubSeen) (rank : ℕ) → ¬ IsOver old.book → old.book.orders ≡ []
+pub fed_by : (b : CoordinatorState) (old new : CoordinatorSeen) (rank : ℕ) → ¬ IsOver old.book → old.book.orders ≡ []
     → AreReadOut old.streams → HasFed old.crew new.crew old.streams new.streams rank → new.book ≡ old.book
     → new.wants ≡ old.wants → new.pacing ≡ old.pacing → IsOnIn (is_next Hearing) b old → IsOnIn (is_next Reading) b new
 fed_by b old new rank more told read h book wants pacing (phase, decided, on) = (
@@ -654,7 +654,7 @@ fed_by b old new rank more told read h book wants pacing (phase, decided, on) = 
 )
 
 -- and memory ran out to keep them
-pub lacked_by : (b : HubState) (old new : HubSeen) (rank : ℕ) → ¬ IsOver old.book → old.book.orders ≡ []
+pub lacked_by : (b : CoordinatorState) (old new : CoordinatorSeen) (rank : ℕ) → ¬ IsOver old.book → old.book.orders ≡ []
     → AreReadOut old.streams → HasLacked old.crew new.crew old.streams new.streams rank → new.book ≡ old.book
     → new.wants ≡ true → new.pacing ≡ old.pacing → IsOnIn (is_next Hearing) b old → IsOnIn (is_next Reading) b new
 lacked_by b old new rank more told read h book wants pacing (phase, decided, on) = (
@@ -664,7 +664,7 @@ lacked_by b old new rank more told read h book wants pacing (phase, decided, on)
 )
 
 -- word that a rank is lost
-pub gone_by : (b : HubState) (old new : HubSeen) (rank : ℕ) → ¬ IsOver old.book → old.book.orders ≡ []
+pub gone_by : (b : CoordinatorState) (old new : CoordinatorSeen) (rank : ℕ) → ¬ IsOver old.book → old.book.orders ≡ []
     → AreReadOut old.streams → HasGone old.crew new.crew old.streams new.streams rank
     → new.book ≡ killed rank old.book → ranks_of new.book ≡ ranks_of old.book → new.wants ≡ old.wants
     → new.pacing ≡ old.pacing → IsOnIn (is_next Hearing) b old → IsOnIn (is_next Deciding) b new
@@ -676,7 +676,7 @@ gone_by b old new rank more told read h book ranks wants pacing (phase, decided,
 )
 
 -- it failed
-pub broke_by : (b : HubState) (old new : HubSeen) → ¬ IsOver old.book → old.book.orders ≡ []
+pub broke_by : (b : CoordinatorState) (old new : CoordinatorSeen) → ¬ IsOver old.book → old.book.orders ≡ []
     → AreReadOut old.streams → HasBroken old.crew new.crew old.streams new.streams → new.book ≡ old.book
     → new.wants ≡ old.wants → new.pacing ≡ old.pacing → IsOnIn (is_next Hearing) b old → IsOnIn IsBrokenOff b new
 broke_by b old new more told read h book wants pacing (phase, decided, on) = (
@@ -690,7 +690,7 @@ broke_by b old new more told read h book wants pacing (phase, decided, on) = (
       ∙ ap (λ (crew : CrewSeen). record old { crew = crew }) (only_faults old.crew new.crew h.silent)) on,
 )
 
-pub lost_in : (b : HubState) (old new : HubSeen) (rank : ℕ) → rank < ranks_of old.book
+pub lost_in : (b : CoordinatorState) (old new : CoordinatorSeen) (rank : ℕ) → rank < ranks_of old.book
     → new ≡ without rank old → ranks_of new.book ≡ ranks_of old.book → IsOnIn IsBrokenOff b old
     → IsOnIn IsBrokenOff b new
 lost_in b old new rank there rest ranks (phase, is, on) =
@@ -698,7 +698,7 @@ lost_in b old new rank there rest ranks (phase, is, on) =
 
 -- ---- decisions
 
-pub decided_by : (b : HubState) (old new : HubSeen) → ¬ IsOver old.book → ¬ IsSaveDue old.pacing old.book
+pub decided_by : (b : CoordinatorState) (old new : CoordinatorSeen) → ¬ IsOver old.book → ¬ IsSaveDue old.pacing old.book
     → IsDecided old.book new.book
     → ranks_of new.book ≡ ranks_of old.book → new ≡ record old { book = new.book } → IsOnIn IsRested b old
     → IsOnIn (is_next Hearing) b new
@@ -708,7 +708,7 @@ decided_by b old new more saved is ranks rest (phase, due, on) = (
   decided_on phase b old new more saved due is ranks rest on,
 )
 
-pub halted_by : (b : HubState) (old new : HubSeen) (steps : ℕ) → ¬ IsOver old.book
+pub halted_by : (b : CoordinatorState) (old new : CoordinatorSeen) (steps : ℕ) → ¬ IsOver old.book
     → ¬ IsSaveDue old.pacing old.book → Stands steps old.book new.book → ranks_of new.book ≡ ranks_of old.book
     → new ≡ record old { wants = true; book = new.book } → IsOnIn IsRested b old
     → IsOnIn (is_next Hearing) b new
@@ -719,7 +719,7 @@ halted_by b old new steps more saved is ranks rest (phase, due, on) = (
 )
 
 -- the book was saved
-pub kept_on : (phase : Phase) (b : HubState) (old : HubSeen) → IsSaveDue old.pacing old.book → IsOnAs phase b old
+pub kept_on : (phase : Phase) (b : CoordinatorState) (old : CoordinatorSeen) → IsSaveDue old.pacing old.book → IsOnAs phase b old
     → IsOnAs phase b (record old { pacing = saved_at old.book })
 kept_on phase b old due on =
     on_still phase phase b old (record old { pacing = saved_at old.book }) Kept refl
@@ -727,7 +727,7 @@ kept_on phase b old due on =
     (record { lives = on.fit.lives; streams = on.fit.streams }) on
 
 -- an order could not be put into bytes
-pub unwritten_on : (phase : Phase) (b : HubState) (before : BookState) (h : HubSeen) (told : Told)
+pub unwritten_on : (phase : Phase) (b : CoordinatorState) (before : BookState) (h : CoordinatorSeen) (told : Told)
     → IsAlive h.crew told.rank → IsOrderTold before h.book told → IsOnAs phase b (record h { book = before })
     → IsOnAs phase b (record h { wants = true })
 unwritten_on phase b before h told alive left on =
@@ -752,43 +752,43 @@ first_order old new told is left =
 
 -- ---- phases
 
-pub in_phase : (P : Phase → Type 0) (phase : Phase) (b : HubState) (h : HubSeen) → P phase → IsOnAs phase b h
+pub in_phase : (P : Phase → Type 0) (phase : Phase) (b : CoordinatorState) (h : CoordinatorSeen) → P phase → IsOnAs phase b h
     → IsOnIn P b h
 in_phase P phase b h is on = (phase, is, on)
 
--- a deed done in any phase is done in this one
-pub stays_in : (P : Phase → Type 0) (b : HubState) (old new : HubSeen)
+-- a action done in any phase is done in this one
+pub stays_in : (P : Phase → Type 0) (b : CoordinatorState) (old new : CoordinatorSeen)
     → ((phase : Phase) → IsOnAs phase b old → IsOnAs phase b new) → IsOnIn P b old → IsOnIn P b new
 stays_in P b old new goes (phase, is, on) = (phase, is, goes phase on)
 
 -- and then what a step does
-pub steps_on : (result : Bool) (P Q : Phase → Type 0) (old mid new : HubSeen)
-    → ((from : HubState) → IsOnIn P from old → IsOnIn Q from mid)
-    → MatchBool result ((from : HubState) → IsOnIn Q from mid → IsOnIn IsRested from new)
-    ((from : HubState) → IsOnIn Q from mid → IsOnIn AnyPhase from new)
-    → MatchBool result ((from : HubState) → IsOnIn P from old → IsOnIn IsRested from new)
-    ((from : HubState) → IsOnIn P from old → IsOnIn AnyPhase from new)
+pub steps_on : (result : Bool) (P Q : Phase → Type 0) (old mid new : CoordinatorSeen)
+    → ((from : CoordinatorState) → IsOnIn P from old → IsOnIn Q from mid)
+    → MatchBool result ((from : CoordinatorState) → IsOnIn Q from mid → IsOnIn IsRested from new)
+    ((from : CoordinatorState) → IsOnIn Q from mid → IsOnIn AnyPhase from new)
+    → MatchBool result ((from : CoordinatorState) → IsOnIn P from old → IsOnIn IsRested from new)
+    ((from : CoordinatorState) → IsOnIn P from old → IsOnIn AnyPhase from new)
 steps_on true P Q old mid new goes on = λ from was. on from (goes from was)
 steps_on false P Q old mid new goes on = λ from was. on from (goes from was)
 
-pub any_in : (P : Phase → Type 0) (b : HubState) (h : HubSeen) → IsOnIn P b h → IsOnIn AnyPhase b h
+pub any_in : (P : Phase → Type 0) (b : CoordinatorState) (h : CoordinatorSeen) → IsOnIn P b h → IsOnIn AnyPhase b h
 any_in P b h (phase, is, on) = (phase, tt, on)
 
-pub deciding_rests : (b : HubState) (h : HubSeen) → IsOnIn (is_next Deciding) b h → IsOnIn IsRested b h
+pub deciding_rests : (b : CoordinatorState) (h : CoordinatorSeen) → IsOnIn (is_next Deciding) b h → IsOnIn IsRested b h
 deciding_rests b h (phase, is, on) = (phase, subst MayDecide (sym is) tt, on)
 
-pub reading_rests : (b : HubState) (h : HubSeen) → IsOnIn (is_next Reading) b h → IsOnIn IsRested b h
+pub reading_rests : (b : CoordinatorState) (h : CoordinatorSeen) → IsOnIn (is_next Reading) b h → IsOnIn IsRested b h
 reading_rests b h (phase, is, on) = (phase, subst MayDecide (sym is) tt, on)
 
-pub hearing_reads : (b : HubState) (h : HubSeen) → IsOnIn (is_next Hearing) b h → IsOnIn MayRead b h
+pub hearing_reads : (b : CoordinatorState) (h : CoordinatorSeen) → IsOnIn (is_next Hearing) b h → IsOnIn MayRead b h
 hearing_reads b h (phase, is, on) = (phase, subst MayBeRead (sym is) tt, on)
 
-pub reading_reads : (b : HubState) (h : HubSeen) → IsOnIn (is_next Reading) b h → IsOnIn MayRead b h
+pub reading_reads : (b : CoordinatorState) (h : CoordinatorSeen) → IsOnIn (is_next Reading) b h → IsOnIn MayRead b h
 reading_reads b h (phase, is, on) = (phase, subst MayBeRead (sym is) tt, on)
 
 -- ---- the beginning
 
-abbrev pub begun_on : (b : BookState) (h : HubSeen) → IsFresh h.crew (ranks_of b) → h.book ≡ b
+abbrev pub begun_on : (b : BookState) (h : CoordinatorSeen) → IsFresh h.crew (ranks_of b) → h.book ≡ b
     → h.streams ≡ replicate (ranks_of b) first → h.wants ≡ false → h.pacing ≡ record { since = b.heard; apart = 0 }
     → IsOnIn IsRested (beginning b h.crew.faults) h
 begun_on b h fresh book streams wants pacing = (
@@ -797,10 +797,10 @@ begun_on b h fresh book streams wants pacing = (
   record {
     said = [];
     come = record {
-      deeds = [];
-      course =
-          ap (λ (l : List Bool). record (standing [] (record { broken = false; pace = Deciding }) h) { lives = l }) fresh.lives
-          ∙ ap (λ (l : List Waiting). record (standing [] (record { broken = false; pace = Deciding }) h) {
+      actions = [];
+      trace =
+          ap (λ (l : List Bool). record (coordinator_state [] (record { broken = false; pace = Deciding }) h) { lives = l }) fresh.lives
+          ∙ ap (λ (l : List Waiting). record (coordinator_state [] (record { broken = false; pace = Deciding }) h) {
             lives = replicate (ranks_of b) false;
             streams = l;
           }) streams

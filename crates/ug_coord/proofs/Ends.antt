@@ -20,15 +20,15 @@ use Rattle.ug_restart.specs.Moments.{FindsIn, IsFoundNow, IsOfRun}
 use Rattle.ug_restart.specs.Going.{time}
 use Rattle.ug_restart.specs.Outcomes.{HasFeasible, IfAnswered, IfBook, IfLimited, IsLastSave, IsLimited, IsRight, IsSavedOrCounted}
 use Rattle.ug_restart.proofs.Outcomes.{none_missed, saved_or_counted, still_covered, still_found, time_covered, time_found, time_missed}
-use Rattle.ug_coord.specs.Deeds.{HubState, saves_in}
+use Rattle.ug_coord.specs.Actions.{CoordinatorState, saves_in}
 use Rattle.ug_coord.specs.declared.pacing.Pacing.{Pacing}
 use Rattle.ug_coord.specs.Pacing.{IsSaveDue}
 use Rattle.ug_coord.specs.Ends.{IsAnswered, IsAtLimit, IsExactly, IsOver, IsStranded, is_ended, ranks_of}
 use Rattle.ug_coord.specs.Causes.{IsShownGone}
-use Rattle.ug_coord.specs.Hubs.{EndsFrom, HasCoordinated, HubSeen, IsFresh, StartsAndEnds, StaysSound, beginning}
+use Rattle.ug_coord.specs.Coordinators.{EndsFrom, HasCoordinated, CoordinatorSeen, IsFresh, StartsAndEnds, StaysSound, beginning}
 use Rattle.ug_coord.specs.Keeping.{Begins, HasConcluded, HasKept, AreEachSaved, IsBegun, IsEachSaved, IsKeptSafe, IsNothing, IsOurs, KeptSeen, Moves, end_kept, missed_by, moves, savers, unsaved_by}
 use Rattle.ug_coord.proofs.Causes.{AreAlive, dead_has_cause}
-use Rattle.ug_coord.proofs.Counts.{IsWithin, course_within}
+use Rattle.ug_coord.proofs.Counts.{IsWithin, trace_within}
 use Rattle.ug_coord.proofs.Faults.{dead_is_shown}
 use Rattle.ug_coord.proofs.Kept.{moves_on, sound_last}
 use Rattle.ug_coord.proofs.Starting.{none_lives}
@@ -69,7 +69,7 @@ pub nothing_coordinated : (b : BookState) (seen : CrewSeen) (saver : Option Save
     → HasCoordinated b seen.faults seen outcome.end (AreEachSaved saver outcome disk) (IsKeptSafe saver disk disk)
 nothing_coordinated b seen saver outcome disk fresh alive none = record {
   now = beginning b seen.faults;
-  come = record { deeds = []; course = refl };
+  come = record { actions = []; trace = refl };
   made = inr refl;
   started = inr (refl, none.ended);
   shown = fresh.said;
@@ -119,7 +119,7 @@ book_has P (Stranded own) b is holds = subst P (sym is.0) holds
 book_has P Memory b is holds = tt
 
 -- all that was saved
-pub all_moved : (from : HubState) (h : HubSeen) (old mid : KeptSeen) (disk : DiskSeen)
+pub all_moved : (from : CoordinatorState) (h : CoordinatorSeen) (old mid : KeptSeen) (disk : DiskSeen)
     (outcome : Outcome) (e : EndsFrom from h old mid) → is_ended outcome.end h.book → IsOurs mid h.book
     → (c : HasConcluded outcome mid disk)
     → Moves (StaysSound from e.now e.come) (Unit {0}) old (record { saves = c.saves; disk = disk })
@@ -127,7 +127,7 @@ all_moved from h old mid disk outcome e is ours c =
     moves_on (IfBook outcome.end IsSoundBook) (StaysSound from e.now e.come) (IfBook outcome.end (IsOurs mid))
     (Unit {0}) old mid (record { saves = c.saves; disk = disk })
     (λ sound. book_has IsSoundBook outcome.end h.book is
-    (subst IsSoundBook e.its (sound_last from e.come.deeds e.now e.come.course sound)))
+    (subst IsSoundBook e.its (sound_last from e.come.actions e.now e.come.trace sound)))
     (λ none. book_has (IsOurs mid) outcome.end h.book is ours) e.moves c.moves
 
 safe_moved : (Covers : Type 0) (a b : Option Saves) (x y : DiskSeen) → moves Covers (Unit {0}) a x b y → Covers
@@ -178,7 +178,7 @@ pub record IsEndingBook (b : BookState) (end : End) (wants : Bool) (book : BookS
   pub feasible : IfBook end HasFeasible
   pub right : IfAnswered end (λ own. IsSoundBook own → IsRight own)
 
-pub solved_coordinated : (b : BookState) (faults : ℕ) (h : HubSeen) (old mid : KeptSeen) (disk : DiskSeen)
+pub solved_coordinated : (b : BookState) (faults : ℕ) (h : CoordinatorSeen) (old mid : KeptSeen) (disk : DiskSeen)
     (outcome : Outcome) → StartsAndEnds (ranks_of b) (beginning b faults) h old mid
     → IsEndingBook b outcome.end h.wants h.book
     → IsOurs mid h.book → ¬ IsSaveDue h.pacing h.book → (o : Opening) → IfSome old.saves (IsBegun o)
@@ -203,13 +203,13 @@ solved_coordinated b faults h old mid disk outcome all is ours saved o own c =
       same = book_has (IsSameRun b) outcome.end h.book is.ended is.same;
       feasible = is.feasible;
       limited = at_limit outcome.end h.book is.ended (subst IsWithin e.its
-          (course_within (beginning b faults) e.come.deeds e.now e.come.course is.within));
+          (trace_within (beginning b faults) e.come.actions e.now e.come.trace is.within));
       causes = λ rank there dead.
-          dead_has_cause (beginning b faults) e.come.deeds e.now rank e.come.course (is.alive rank there) dead;
-      shows = λ rank there dead. subst (λ (n : ℕ). IsShownGone faults n rank e.come.deeds) e.faults
-          (dead_is_shown (beginning b faults) e.come.deeds e.now rank e.come.course refl (is.alive rank there) dead);
+          dead_has_cause (beginning b faults) e.come.actions e.now rank e.come.trace (is.alive rank there) dead;
+      shows = λ rank there dead. subst (λ (n : ℕ). IsShownGone faults n rank e.come.actions) e.faults
+          (dead_is_shown (beginning b faults) e.come.actions e.now rank e.come.trace refl (is.alive rank there) dead);
       right = is.right;
-      tried = each_saved (IfBook outcome.end IsSoundBook) (IfBook outcome.end (IsOurs mid)) o outcome (saves_in e.come.deeds)
+      tried = each_saved (IfBook outcome.end IsSoundBook) (IfBook outcome.end (IsOurs mid)) o outcome (saves_in e.come.actions)
           old.saves mid.saves c.saves mid.disk disk own e.tried c.became c.moves c.missed c.unsaved;
       safe = λ sound. safe_moved (StaysSound (beginning b faults) e.now e.come) old.saves c.saves old.disk disk
           (all_moved (beginning b faults) h old mid disk outcome e is.ended ours c) sound;
@@ -255,7 +255,7 @@ some_saver Covers Ours None b x y P one holds = tt
 some_saver Covers Ours (Some a) None x y P one holds = absurd one
 some_saver Covers Ours (Some a) (Some b) x y P one holds = holds
 
-pub solved_kept : (o : Opening) (from : HubState) (h : HubSeen) (old mid : KeptSeen) (disk : DiskSeen)
+pub solved_kept : (o : Opening) (from : CoordinatorState) (h : CoordinatorSeen) (old mid : KeptSeen) (disk : DiskSeen)
     (outcome : Outcome) → EndsFrom from h old mid → is_ended outcome.end h.book → IsOurs mid h.book
     → IfSome old.saves (IsBegun o) → HasConcluded outcome mid disk
     → HasKept (opening_book o) (savers old.saves) outcome old.disk disk

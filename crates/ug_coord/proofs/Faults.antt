@@ -1,4 +1,4 @@
--- The count of a crew's faults along the deeds, and what shows that a rank is lost.
+-- The count of a crew's faults along the actions, and what shows that a rank is lost.
 use Rattle.std.proofs.Common.{◌≡◌, ◌⊎◌, inl, inr, ℕ, ◌≤◌, true, false, List, [], ◌∷◌, ◌++◌, sym, ap, subst, ◌∙◌, arith}
 use Rattle.std.proofs.lemmas.Bool.{cases_lt, false≢true}
 use Rattle.std.proofs.lemmas.List.Elements.{Contains-append_left, Contains-append_right, Contains-push}
@@ -7,9 +7,9 @@ use Rattle.ug_io.specs.Outside.{Rose}
 use Rattle.ug_ranks.specs.Looks.{is_alive}
 use Rattle.ug_ranks.specs.States.{state_at}
 use Rattle.ug_coord.specs.Causes.{IsAtFault, IsEndOf, IsShownGone}
-use Rattle.ug_coord.specs.Deeds.{Broke, Came, Cause, Closed, Decided, Deed, Does, Ended, Failed, Halted, IsCause, IsCourse, Kept as Saved, Launched, Lost, Nonsense, Passed}
-use Rattle.ug_coord.specs.Deeds.{Sent, SetUp, HubState, Took, Unclosed, Unfed, Unread, Unsent, Unwritten}
-use Rattle.ug_coord.proofs.Causes.{Alive, deed_lives}
+use Rattle.ug_coord.specs.Actions.{Broke, Came, Cause, Closed, Decided, Action, NextState, Ended, Failed, Halted, IsCause, IsTrace, Kept as Saved, Launched, Lost, Nonsense, Passed}
+use Rattle.ug_coord.specs.Actions.{Sent, SetUp, CoordinatorState, Took, Unclosed, Unfed, Unread, Unsent, Unwritten}
+use Rattle.ug_coord.proofs.Causes.{Alive, action_lives}
 
 -- ---- the count of faults never falls
 
@@ -17,7 +17,7 @@ pub rose_up : (old new : ℕ) → Rose old new → old ≤ new
 rose_up old new (inl less) = omega (arith, less)
 rose_up old new (inr full) = omega (arith, full.1)
 
-pub cause_up : (old new : HubState) (rank : ℕ) (cause : Cause) → IsCause old new rank cause → old.faults ≤ new.faults
+pub cause_up : (old new : CoordinatorState) (rank : ℕ) (cause : Cause) → IsCause old new rank cause → old.faults ≤ new.faults
 cause_up old new rank Ended is = rose_up old.faults new.faults is.faults
 cause_up old new rank Failed is = elim is.1 [
   | inl before ↦ omega (arith, before.1)
@@ -25,33 +25,33 @@ cause_up old new rank Failed is = elim is.1 [
 ]
 cause_up old new rank Nonsense is = omega (arith, is.faults)
 
-pub same_faults : (old new : HubState) → new.faults ≡ old.faults → old.faults ≤ new.faults
+pub same_faults : (old new : CoordinatorState) → new.faults ≡ old.faults → old.faults ≤ new.faults
 same_faults old new same = omega (arith, same)
 
-pub faults_up : (old : HubState) (deed : Deed) (new : HubState) → Does old deed new → old.faults ≤ new.faults
-faults_up old (Launched rank) new does = same_faults old new (ap (λ (s : HubState). s.faults) does.1)
-faults_up old (SetUp rank bytes) new does = same_faults old new (ap (λ (s : HubState). s.faults) does.rest)
-faults_up old (Closed rank) new does = same_faults old new (ap (λ (s : HubState). s.faults) does.rest)
-faults_up old (Came rank bytes) new does = same_faults old new (ap (λ (s : HubState). s.faults) does.rest)
+pub faults_up : (old : CoordinatorState) (action : Action) (new : CoordinatorState) → NextState old action new → old.faults ≤ new.faults
+faults_up old (Launched rank) new does = same_faults old new (ap (λ (s : CoordinatorState). s.faults) does.1)
+faults_up old (SetUp rank bytes) new does = same_faults old new (ap (λ (s : CoordinatorState). s.faults) does.rest)
+faults_up old (Closed rank) new does = same_faults old new (ap (λ (s : CoordinatorState). s.faults) does.rest)
+faults_up old (Came rank bytes) new does = same_faults old new (ap (λ (s : CoordinatorState). s.faults) does.rest)
 faults_up old (Took rank report answer) new does =
-    same_faults old new (ap (λ (s : HubState). s.faults) does.rest)
+    same_faults old new (ap (λ (s : CoordinatorState). s.faults) does.rest)
 faults_up old (Lost rank cause) new does = cause_up old new rank cause does.why
-faults_up old Decided new does = same_faults old new (ap (λ (s : HubState). s.faults) does.rest)
-faults_up old (Sent rank order) new does = same_faults old new (ap (λ (s : HubState). s.faults) does.rest)
+faults_up old Decided new does = same_faults old new (ap (λ (s : CoordinatorState). s.faults) does.rest)
+faults_up old (Sent rank order) new does = same_faults old new (ap (λ (s : CoordinatorState). s.faults) does.rest)
 faults_up old (Unsent rank order) new does = rose_up old.faults new.faults does.faults
-faults_up old (Passed rank order) new does = same_faults old new (ap (λ (s : HubState). s.faults) does.rest)
+faults_up old (Passed rank order) new does = same_faults old new (ap (λ (s : CoordinatorState). s.faults) does.rest)
 faults_up old Broke new does = rose_up old.faults new.faults does.faults
 faults_up old (Unclosed rank) new does = rose_up old.faults new.faults does.faults
-faults_up old (Halted steps) new does = same_faults old new (ap (λ (s : HubState). s.faults) does.rest)
-faults_up old (Unwritten rank order) new does = same_faults old new (ap (λ (s : HubState). s.faults) does.rest)
-faults_up old (Unfed rank bytes) new does = same_faults old new (ap (λ (s : HubState). s.faults) does.rest)
-faults_up old Unread new does = same_faults old new (ap (λ (s : HubState). s.faults) does.1)
-faults_up old Saved new does = same_faults old new (ap (λ (s : HubState). s.faults) does.rest)
+faults_up old (Halted steps) new does = same_faults old new (ap (λ (s : CoordinatorState). s.faults) does.rest)
+faults_up old (Unwritten rank order) new does = same_faults old new (ap (λ (s : CoordinatorState). s.faults) does.rest)
+faults_up old (Unfed rank bytes) new does = same_faults old new (ap (λ (s : CoordinatorState). s.faults) does.rest)
+faults_up old Unread new does = same_faults old new (ap (λ (s : CoordinatorState). s.faults) does.1)
+faults_up old Saved new does = same_faults old new (ap (λ (s : CoordinatorState). s.faults) does.rest)
 
-pub course_up : (old : HubState) (deeds : List Deed) (new : HubState) → IsCourse old deeds new → old.faults ≤ new.faults
-course_up old [] new same = same_faults old new (ap (λ (s : HubState). s.faults) same)
-course_up old (deed ∷ deeds) new (mid, does, more) =
-    omega (arith, faults_up old deed mid does, course_up mid deeds new more)
+pub trace_up : (old : CoordinatorState) (actions : List Action) (new : CoordinatorState) → IsTrace old actions new → old.faults ≤ new.faults
+trace_up old [] new same = same_faults old new (ap (λ (s : CoordinatorState). s.faults) same)
+trace_up old (action ∷ actions) new (mid, does, more) =
+    omega (arith, faults_up old action mid does, trace_up mid actions new more)
 
 -- ---- if it rose
 
@@ -70,55 +70,55 @@ rose_since start old new since (inr full) = elim (cases_lt start new) [
 ]
 
 -- a turn failed only where it rose
-abbrev IsToldSo : ℕ → HubState → Type 0
+abbrev IsToldSo : ℕ → CoordinatorState → Type 0
 IsToldSo start s = s.broken ≡ true → Rose start s.faults
 
-still_so : (start : ℕ) (old new : HubState) → new.broken ≡ old.broken → old.faults ≤ new.faults → IsToldSo start old
+still_so : (start : ℕ) (old new : CoordinatorState) → new.broken ≡ old.broken → old.faults ≤ new.faults → IsToldSo start old
     → IsToldSo start new
 still_so start old new same up so broken = rose_on start old.faults new.faults up (so (sym same ∙ broken))
 
-told_so : (start : ℕ) (old : HubState) (deed : Deed) (new : HubState) → Does old deed new → start ≤ old.faults
+told_so : (start : ℕ) (old : CoordinatorState) (action : Action) (new : CoordinatorState) → NextState old action new → start ≤ old.faults
     → IsToldSo start old → IsToldSo start new
 told_so start old (Launched rank) new does since so =
-    still_so start old new (ap (λ (s : HubState). s.broken) does.1) (faults_up old (Launched rank) new does) so
+    still_so start old new (ap (λ (s : CoordinatorState). s.broken) does.1) (faults_up old (Launched rank) new does) so
 told_so start old (SetUp rank bytes) new does since so =
-    still_so start old new (ap (λ (s : HubState). s.broken) does.rest) (faults_up old (SetUp rank bytes) new does) so
+    still_so start old new (ap (λ (s : CoordinatorState). s.broken) does.rest) (faults_up old (SetUp rank bytes) new does) so
 told_so start old (Closed rank) new does since so =
-    still_so start old new (ap (λ (s : HubState). s.broken) does.rest) (faults_up old (Closed rank) new does) so
+    still_so start old new (ap (λ (s : CoordinatorState). s.broken) does.rest) (faults_up old (Closed rank) new does) so
 told_so start old (Came rank bytes) new does since so =
-    still_so start old new (ap (λ (s : HubState). s.broken) does.rest) (faults_up old (Came rank bytes) new does) so
+    still_so start old new (ap (λ (s : CoordinatorState). s.broken) does.rest) (faults_up old (Came rank bytes) new does) so
 told_so start old (Took rank report answer) new does since so =
-    still_so start old new (ap (λ (s : HubState). s.broken) does.rest) (faults_up old (Took rank report answer) new does) so
+    still_so start old new (ap (λ (s : CoordinatorState). s.broken) does.rest) (faults_up old (Took rank report answer) new does) so
 told_so start old (Lost rank cause) new does since so =
     still_so start old new does.broken (faults_up old (Lost rank cause) new does) so
 told_so start old Decided new does since so =
-    still_so start old new (ap (λ (s : HubState). s.broken) does.rest) (faults_up old Decided new does) so
+    still_so start old new (ap (λ (s : CoordinatorState). s.broken) does.rest) (faults_up old Decided new does) so
 told_so start old (Sent rank order) new does since so =
-    still_so start old new (ap (λ (s : HubState). s.broken) does.rest) (faults_up old (Sent rank order) new does) so
+    still_so start old new (ap (λ (s : CoordinatorState). s.broken) does.rest) (faults_up old (Sent rank order) new does) so
 told_so start old (Unsent rank order) new does since so =
-    still_so start old new (ap (λ (s : HubState). s.broken) does.rest) (faults_up old (Unsent rank order) new does) so
+    still_so start old new (ap (λ (s : CoordinatorState). s.broken) does.rest) (faults_up old (Unsent rank order) new does) so
 told_so start old (Passed rank order) new does since so =
-    still_so start old new (ap (λ (s : HubState). s.broken) does.rest) (faults_up old (Passed rank order) new does) so
+    still_so start old new (ap (λ (s : CoordinatorState). s.broken) does.rest) (faults_up old (Passed rank order) new does) so
 told_so start old Broke new does since so = λ broken. rose_since start old.faults new.faults since does.faults
 told_so start old (Unclosed rank) new does since so =
-    still_so start old new (ap (λ (s : HubState). s.broken) does.rest) (faults_up old (Unclosed rank) new does) so
+    still_so start old new (ap (λ (s : CoordinatorState). s.broken) does.rest) (faults_up old (Unclosed rank) new does) so
 told_so start old (Halted steps) new does since so =
-    still_so start old new (ap (λ (s : HubState). s.broken) does.rest) (faults_up old (Halted steps) new does) so
+    still_so start old new (ap (λ (s : CoordinatorState). s.broken) does.rest) (faults_up old (Halted steps) new does) so
 told_so start old (Unwritten rank order) new does since so =
-    still_so start old new (ap (λ (s : HubState). s.broken) does.rest) (faults_up old (Unwritten rank order) new does) so
+    still_so start old new (ap (λ (s : CoordinatorState). s.broken) does.rest) (faults_up old (Unwritten rank order) new does) so
 told_so start old (Unfed rank bytes) new does since so =
-    still_so start old new (ap (λ (s : HubState). s.broken) does.rest) (faults_up old (Unfed rank bytes) new does) so
+    still_so start old new (ap (λ (s : CoordinatorState). s.broken) does.rest) (faults_up old (Unfed rank bytes) new does) so
 told_so start old Unread new does since so =
-    still_so start old new (ap (λ (s : HubState). s.broken) does.1) (faults_up old Unread new does) so
+    still_so start old new (ap (λ (s : CoordinatorState). s.broken) does.1) (faults_up old Unread new does) so
 told_so start old Saved new does since so =
-    still_so start old new (ap (λ (s : HubState). s.broken) does.rest) (faults_up old Saved new does) so
+    still_so start old new (ap (λ (s : CoordinatorState). s.broken) does.rest) (faults_up old Saved new does) so
 
 -- ---- what shows that a rank is lost
 
-alone : (deed : Deed) → Contains (deed ∷ []) deed
-alone deed = Contains-push [] deed
+alone : (action : Action) → Contains (action ∷ []) action
+alone action = Contains-push [] action
 
-lost_shows : (start : ℕ) (old new : HubState) (rank : ℕ) (cause : Cause) → IsCause old new rank cause
+lost_shows : (start : ℕ) (old new : CoordinatorState) (rank : ℕ) (cause : Cause) → IsCause old new rank cause
     → start ≤ old.faults → IsToldSo start old → IsShownGone start new.faults rank (Lost rank cause ∷ [])
 lost_shows start old new rank Ended is since so = inl (rose_since start old.faults new.faults since is.faults)
 lost_shows start old new rank Failed is since so = elim is.1 [
@@ -127,8 +127,8 @@ lost_shows start old new rank Failed is since so = elim is.1 [
 ]
 lost_shows start old new rank Nonsense is since so = inr (inl (alone (Lost rank Nonsense)))
 
-end_shows : (start : ℕ) (old : HubState) (deed : Deed) (new : HubState) (rank : ℕ) → Does old deed new
-    → IsEndOf rank deed → start ≤ old.faults → IsToldSo start old → IsShownGone start new.faults rank (deed ∷ [])
+end_shows : (start : ℕ) (old : CoordinatorState) (action : Action) (new : CoordinatorState) (rank : ℕ) → NextState old action new
+    → IsEndOf rank action → start ≤ old.faults → IsToldSo start old → IsShownGone start new.faults rank (action ∷ [])
 end_shows start old (Launched other) new rank does ends since so = absurd ends
 end_shows start old (SetUp other bytes) new rank does ends since so = absurd ends
 end_shows start old (Closed other) new rank does ends since so = absurd ends
@@ -156,8 +156,8 @@ end_shows start old (Unfed other bytes) new rank does ends since so = absurd end
 end_shows start old Unread new rank does ends since so = absurd ends
 end_shows start old Saved new rank does ends since so = absurd ends
 
--- among more deeds
-fault_in : (rank : ℕ) (before its after : List Deed) → IsAtFault rank its → IsAtFault rank (before ++ (its ++ after))
+-- among more actions
+fault_in : (rank : ℕ) (before its after : List Action) → IsAtFault rank its → IsAtFault rank (before ++ (its ++ after))
 fault_in rank before its after (inl bad) =
     inl (Contains-append_right before (its ++ after) (Lost rank Nonsense)
     (Contains-append_left its after (Lost rank Nonsense) bad))
@@ -169,45 +169,45 @@ fault_in rank before its after (inr answer) = inr (record {
   deadly = answer.deadly;
 })
 
-first_shows : (start mid new rank : ℕ) (deed : Deed) (deeds : List Deed) → mid ≤ new
-    → IsShownGone start mid rank (deed ∷ []) → IsShownGone start new rank (deed ∷ deeds)
-first_shows start mid new rank deed deeds up (inl rose) = inl (rose_on start mid new up rose)
-first_shows start mid new rank deed deeds up (inr fault) = inr (fault_in rank [] (deed ∷ []) deeds fault)
+first_shows : (start mid new rank : ℕ) (action : Action) (actions : List Action) → mid ≤ new
+    → IsShownGone start mid rank (action ∷ []) → IsShownGone start new rank (action ∷ actions)
+first_shows start mid new rank action actions up (inl rose) = inl (rose_on start mid new up rose)
+first_shows start mid new rank action actions up (inr fault) = inr (fault_in rank [] (action ∷ []) actions fault)
 
-later_shows : (start new rank : ℕ) (deed : Deed) (deeds : List Deed) → IsShownGone start new rank deeds
-    → IsShownGone start new rank (deed ∷ deeds)
-later_shows start new rank deed deeds (inl rose) = inl rose
-later_shows start new rank deed deeds (inr (inl bad)) =
-    inr (inl (Contains-append_right (deed ∷ []) deeds (Lost rank Nonsense) bad))
-later_shows start new rank deed deeds (inr (inr answer)) = inr (inr (record {
+later_shows : (start new rank : ℕ) (action : Action) (actions : List Action) → IsShownGone start new rank actions
+    → IsShownGone start new rank (action ∷ actions)
+later_shows start new rank action actions (inl rose) = inl rose
+later_shows start new rank action actions (inr (inl bad)) =
+    inr (inl (Contains-append_right (action ∷ []) actions (Lost rank Nonsense) bad))
+later_shows start new rank action actions (inr (inr answer)) = inr (inr (record {
   report = answer.report;
   answer = answer.answer;
-  among = Contains-append_right (deed ∷ []) deeds (Took rank answer.report answer.answer) answer.among;
+  among = Contains-append_right (action ∷ []) actions (Took rank answer.report answer.answer) answer.among;
   deadly = answer.deadly;
 }))
 
 -- it is alive at the end, or that shows
-course_shows : (start : ℕ) (old : HubState) (deeds : List Deed) (new : HubState) (rank : ℕ) → IsCourse old deeds new
+trace_shows : (start : ℕ) (old : CoordinatorState) (actions : List Action) (new : CoordinatorState) (rank : ℕ) → IsTrace old actions new
     → start ≤ old.faults → IsToldSo start old → Alive old.book.ranks rank
-    → Alive new.book.ranks rank ⊎ IsShownGone start new.faults rank deeds
-course_shows start old [] new rank same since so alive =
-    inl (subst (λ (s : HubState). Alive s.book.ranks rank) (sym same) alive)
-course_shows start old (deed ∷ deeds) new rank (mid, does, more) since so alive =
-    elim (deed_lives old deed mid rank does alive) [
-      | inl lives ↦ elim (course_shows start mid deeds new rank more
-          (omega (arith, since, faults_up old deed mid does)) (told_so start old deed mid does since so) lives) [
+    → Alive new.book.ranks rank ⊎ IsShownGone start new.faults rank actions
+trace_shows start old [] new rank same since so alive =
+    inl (subst (λ (s : CoordinatorState). Alive s.book.ranks rank) (sym same) alive)
+trace_shows start old (action ∷ actions) new rank (mid, does, more) since so alive =
+    elim (action_lives old action mid rank does alive) [
+      | inl lives ↦ elim (trace_shows start mid actions new rank more
+          (omega (arith, since, faults_up old action mid does)) (told_so start old action mid does since so) lives) [
             | inl now ↦ inl now
-            | inr shows ↦ inr (later_shows start new.faults rank deed deeds shows)
+            | inr shows ↦ inr (later_shows start new.faults rank action actions shows)
           ]
-      | inr ends ↦ inr (first_shows start mid.faults new.faults rank deed deeds (course_up mid deeds new more)
-          (end_shows start old deed mid rank does ends since so))
+      | inr ends ↦ inr (first_shows start mid.faults new.faults rank action actions (trace_up mid actions new more)
+          (end_shows start old action mid rank does ends since so))
     ]
 
-pub dead_is_shown : (old : HubState) (deeds : List Deed) (new : HubState) (rank : ℕ) → IsCourse old deeds new
+pub dead_is_shown : (old : CoordinatorState) (actions : List Action) (new : CoordinatorState) (rank : ℕ) → IsTrace old actions new
     → old.broken ≡ false → Alive old.book.ranks rank → is_alive (state_at new.book.ranks rank) ≡ false
-    → IsShownGone old.faults new.faults rank deeds
-dead_is_shown old deeds new rank course whole alive dead =
-    elim (course_shows old.faults old deeds new rank course (omega arith)
+    → IsShownGone old.faults new.faults rank actions
+dead_is_shown old actions new rank trace whole alive dead =
+    elim (trace_shows old.faults old actions new rank trace (omega arith)
     (λ broken. absurd (false≢true (sym whole ∙ broken))) alive) [
       | inl now ↦ absurd (false≢true (sym dead ∙ now))
       | inr shows ↦ shows

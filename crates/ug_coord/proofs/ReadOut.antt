@@ -7,7 +7,7 @@ use Rattle.std.specs.Prelude.{slice_index_or, slice_set}
 use Rattle.ug_io.specs.Crews.{CrewSeen}
 use Rattle.ug_stream.specs.declared.next.Next.TheVariants.{BadFrame, NeedMore}
 use Rattle.ug_stream.specs.Streams.{Waiting, fed, first, shut}
-use Rattle.ug_coord.specs.Deeds.{AreReadOut, HasMore}
+use Rattle.ug_coord.specs.Actions.{AreReadOut, HasMore}
 use Rattle.ug_coord.specs.Reading.{AreReadBut, HasFed, HasLacked, HasRead}
 
 -- ---- of one rank at most

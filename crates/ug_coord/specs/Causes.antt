@@ -5,33 +5,33 @@ use Rattle.ug_io.specs.Outside.{Rose}
 use Rattle.ug_frames.specs.declared.report.Report.{Report}
 use Rattle.ug_rules.specs.declared.heard.Heard.{Heard}
 use Rattle.ug_rules.specs.Hearing.{is_deadly}
-use Rattle.ug_coord.specs.Deeds.{Deed, Lost, Nonsense, Took, Unsent}
+use Rattle.ug_coord.specs.Actions.{Action, Lost, Nonsense, Took, Unsent}
 
--- with the deed the rank is lost: the crew says so, a call for it or a turn failed, or its bytes
+-- with the action the rank is lost: the crew says so, a call for it or a turn failed, or its bytes
 -- are not a report; an order could not be sent to it; or its report cannot be true
-abbrev pub IsEndOf : ℕ → Deed → Type 0
+abbrev pub IsEndOf : ℕ → Action → Type 0
 IsEndOf rank (Took other report answer) = (other ≡ rank) × (is_deadly answer ≡ true)
 IsEndOf rank (Lost other cause) = other ≡ rank
 IsEndOf rank (Unsent other order) = other ≡ rank
-IsEndOf rank deed = ⊥
+IsEndOf rank action = ⊥
 
--- one of the deeds is such
-pub record HasCause (rank : ℕ) (deeds : List Deed) : Type 0 where
-  pub deed : Deed
-  pub among : Contains deeds deed
-  pub ends : IsEndOf rank deed
+-- one of the actions is such
+pub record HasCause (rank : ℕ) (actions : List Action) : Type 0 where
+  pub action : Action
+  pub among : Contains actions action
+  pub ends : IsEndOf rank action
 
 -- a report of the rank got an answer that is its death
-pub record HasDeadlyAnswer (rank : ℕ) (deeds : List Deed) : Type 0 where
+pub record HasDeadlyAnswer (rank : ℕ) (actions : List Action) : Type 0 where
   pub report : Report
   pub answer : Heard
-  pub among : Contains deeds (Took rank report answer)
+  pub among : Contains actions (Took rank report answer)
   pub deadly : is_deadly answer ≡ true
 
 -- what came from the rank was no report, or a report of it cannot be so
-abbrev pub IsAtFault : ℕ → List Deed → Type 0
-IsAtFault rank deeds = Contains deeds (Lost rank Nonsense) ⊎ HasDeadlyAnswer rank deeds
+abbrev pub IsAtFault : ℕ → List Action → Type 0
+IsAtFault rank actions = Contains actions (Lost rank Nonsense) ⊎ HasDeadlyAnswer rank actions
 
 -- so it is, or the crew failed, as its count of faults shows, in which a rank that ended counts too
-abbrev pub IsShownGone : ℕ → ℕ → ℕ → List Deed → Type 0
-IsShownGone before after rank deeds = Rose before after ⊎ IsAtFault rank deeds
+abbrev pub IsShownGone : ℕ → ℕ → ℕ → List Action → Type 0
+IsShownGone before after rank actions = Rose before after ⊎ IsAtFault rank actions

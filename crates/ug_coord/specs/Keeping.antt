@@ -36,7 +36,7 @@ abbrev pub IsOurs : KeptSeen → BookState → Type 0
 IsOurs k b = IfSome k.saves (λ s. IsSameRun (book_of s) b)
 
 -- the saver has what its disk holds, and what is saved is of this book's run
-pub record IsKeeperOf (k : KeptSeen) (b : BookState) : Type 0 where
+pub record IsCheckpointerOf (k : KeptSeen) (b : BookState) : Type 0 where
   pub kept : IsKeptBy k
   pub ours : IsOurs k b
 

@@ -1,10 +1,10 @@
 pub mod Causes
-pub mod Deeds
+pub mod Actions
 pub mod Ends
 pub mod Pacing
-pub mod Hubs
-pub mod HubViews
+pub mod Coordinators
+pub mod CoordinatorViews
 pub mod Keeping
-pub mod Keepers
+pub mod Checkpointers
 pub mod Reading
 pub mod Starts

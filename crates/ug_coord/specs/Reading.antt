@@ -8,7 +8,7 @@ use Rattle.ug_frames.specs.ReportFrames as reports
 use Rattle.ug_stream.specs.declared.next.Next.{Next}
 use Rattle.ug_stream.specs.Streams.{IsNext, Waiting, fed, first, shut}
 use Rattle.ug_rules.specs.State.{BookState}
-use Rattle.ug_coord.specs.Deeds.{HasMore}
+use Rattle.ug_coord.specs.Actions.{HasMore}
 use Rattle.ug_coord.specs.Ends.{ranks_of}
 use Rattle.ug_coord.specs.declared.streams.Turn.{Turn}
 use Rattle.ug_coord.specs.declared.streams.Turn.TheVariants.{Fed, Gone, Failed, Wanting}

@@ -2,14 +2,14 @@
 
 ghost use Rattle.std.specs.Prelude.{◌≡◌, ◌<◌, false, MatchBool};
 ghost use Rattle.ug_rules.specs.Hearing.{IsHearable};
-ghost use Rattle.ug_coord.specs.Deeds.{AreReadOut, Deciding, Hearing, HubState, IsSettled};
+ghost use Rattle.ug_coord.specs.Actions.{AreReadOut, Deciding, Hearing, CoordinatorState, IsSettled};
 ghost use Rattle.ug_coord.specs.Ends.{AllDead, ranks_of};
-ghost use Rattle.ug_coord.specs.Hubs.{AnyPhase, HasHeardReport, HasReadAll, HearsOne};
-ghost use Rattle.ug_coord.specs.Hubs.{IsBrokenOff, IsOnAs, IsOnIn, IsQuiet, IsRested, MayRead};
-ghost use Rattle.ug_coord.specs.Hubs.{Phase, is_next};
+ghost use Rattle.ug_coord.specs.Coordinators.{AnyPhase, HasHeardReport, HasReadAll, HearsOne};
+ghost use Rattle.ug_coord.specs.Coordinators.{IsBrokenOff, IsOnAs, IsOnIn, IsQuiet, IsRested, MayRead};
+ghost use Rattle.ug_coord.specs.Coordinators.{Phase, is_next};
 ghost use Rattle.ug_coord.specs.Reading.{IsLastFed};
 
-use crate::hub::Hub;
+use crate::coordinator::Coordinator;
 use crate::streams::{Turn, next_of, take_turn};
 use ug_frames::Report;
 use ug_io::Crew;
@@ -18,22 +18,25 @@ use ug_rules::Heard;
 use ug_snapshot::image_of;
 use ug_stream::Next;
 
-impl<R, O: Observer, C: Crew> Hub<'_, R, O, C> {
-    ghost use Rattle.ug_coord.specs.HubViews.{hub_seen};
+impl<R, O: Observer, C: Crew> Coordinator<'_, R, O, C> {
+    ghost use Rattle.ug_coord.specs.CoordinatorViews.{coordinator_seen};
 
     /// Receives a report that has arrived, or waits until something comes. Returns false if that
     /// failed, and all ranks are lost.
     pub fn listen(&mut self) -> bool
-        requires on { (from : HubState) × IsOnIn (is_next Hearing) from (hub_seen C.seen self.old) }
+        requires on { (from : CoordinatorState)
+            × IsOnIn (is_next Hearing) from (coordinator_seen C.seen self.old) }
         requires settled { IsSettled self.old.book }
         ensures on { MatchBool result
-            ((from : HubState) → IsOnIn (is_next Hearing) from (hub_seen C.seen self.old)
-            → IsOnIn IsRested from (hub_seen C.seen self.new))
-            ((from : HubState) → IsOnIn (is_next Hearing) from (hub_seen C.seen self.old)
-            → IsOnIn AnyPhase from (hub_seen C.seen self.new)) }
+            ((from : CoordinatorState)
+            → IsOnIn (is_next Hearing) from (coordinator_seen C.seen self.old)
+            → IsOnIn IsRested from (coordinator_seen C.seen self.new))
+            ((from : CoordinatorState)
+            → IsOnIn (is_next Hearing) from (coordinator_seen C.seen self.old)
+            → IsOnIn AnyPhase from (coordinator_seen C.seen self.new)) }
         ensures hears { MatchBool result
-            (HearsOne (hub_seen C.seen self.old) (hub_seen C.seen self.new))
-            (IsQuiet (hub_seen C.seen self.old) (hub_seen C.seen self.new)) }
+            (HearsOne (coordinator_seen C.seen self.old) (coordinator_seen C.seen self.new))
+            (IsQuiet (coordinator_seen C.seen self.old) (coordinator_seen C.seen self.new)) }
         ensures all { result ≡ false → AllDead self.new.book }
     {
         let Some(rank) = self.last else {
@@ -48,17 +51,20 @@ impl<R, O: Observer, C: Crew> Hub<'_, R, O, C> {
     // Waits until something comes, and receives the first report of it. Returns false if that
     // failed, and all ranks are lost.
     fn turn(&mut self) -> bool
-        requires on { (from : HubState) × IsOnIn (is_next Hearing) from (hub_seen C.seen self.old) }
+        requires on { (from : CoordinatorState)
+            × IsOnIn (is_next Hearing) from (coordinator_seen C.seen self.old) }
         requires settled { IsSettled self.old.book }
         requires read { AreReadOut self.old.streams.items }
         ensures on { MatchBool result
-            ((from : HubState) → IsOnIn (is_next Hearing) from (hub_seen C.seen self.old)
-            → IsOnIn IsRested from (hub_seen C.seen self.new))
-            ((from : HubState) → IsOnIn (is_next Hearing) from (hub_seen C.seen self.old)
-            → IsOnIn AnyPhase from (hub_seen C.seen self.new)) }
+            ((from : CoordinatorState)
+            → IsOnIn (is_next Hearing) from (coordinator_seen C.seen self.old)
+            → IsOnIn IsRested from (coordinator_seen C.seen self.new))
+            ((from : CoordinatorState)
+            → IsOnIn (is_next Hearing) from (coordinator_seen C.seen self.old)
+            → IsOnIn AnyPhase from (coordinator_seen C.seen self.new)) }
         ensures hears { MatchBool result
-            (HearsOne (hub_seen C.seen self.old) (hub_seen C.seen self.new))
-            (IsQuiet (hub_seen C.seen self.old) (hub_seen C.seen self.new)) }
+            (HearsOne (coordinator_seen C.seen self.old) (coordinator_seen C.seen self.new))
+            (IsQuiet (coordinator_seen C.seen self.old) (coordinator_seen C.seen self.new)) }
         ensures all { result ≡ false → AllDead self.new.book }
     {
         match take_turn(&mut self.crew, &mut self.streams, &mut self.input) {
@@ -85,17 +91,21 @@ impl<R, O: Observer, C: Crew> Hub<'_, R, O, C> {
     // Receives the next report of the rank, or finds that its bytes are not one. Returns false if
     // all of them were read.
     fn hear_next(&mut self, rank: u32) -> bool
-        requires on { (from : HubState) × IsOnIn AnyPhase from (hub_seen C.seen self.old) }
+        requires on { (from : CoordinatorState)
+            × IsOnIn AnyPhase from (coordinator_seen C.seen self.old) }
         requires last { IsLastFed self.old.last self.old.book rank }
         requires settled { IsSettled self.old.book }
         ensures on { MatchBool result
-            ((from : HubState) → IsOnIn MayRead from (hub_seen C.seen self.old)
-            → IsOnIn (is_next Deciding) from (hub_seen C.seen self.new))
-            ((phase : Phase) (from : HubState) → IsOnAs phase from (hub_seen C.seen self.old)
-            → IsOnAs phase from (hub_seen C.seen self.new)) }
-        ensures hears { HearsOne (hub_seen C.seen self.old) (hub_seen C.seen self.new) }
+            ((from : CoordinatorState) → IsOnIn MayRead from (coordinator_seen C.seen self.old)
+            → IsOnIn (is_next Deciding) from (coordinator_seen C.seen self.new))
+            ((phase : Phase) (from : CoordinatorState)
+            → IsOnAs phase from (coordinator_seen C.seen self.old)
+            → IsOnAs phase from (coordinator_seen C.seen self.new)) }
+        ensures hears { HearsOne (coordinator_seen C.seen self.old)
+            (coordinator_seen C.seen self.new) }
         ensures read { result ≡ false
-            → HasReadAll (hub_seen C.seen self.old) (hub_seen C.seen self.new) rank }
+            → HasReadAll (coordinator_seen C.seen self.old)
+            (coordinator_seen C.seen self.new) rank }
     {
         match next_of(self.host.alloc, &mut self.streams, rank) {
             Ok(Next::Message(report)) => {
@@ -123,9 +133,11 @@ impl<R, O: Observer, C: Crew> Hub<'_, R, O, C> {
     fn hear(&mut self, rank: u32, report: Report)
         requires there { rank < ranks_of self.old.book }
         requires hearable { IsHearable report }
-        ensures heard { HasHeardReport (hub_seen C.seen self.old) (hub_seen C.seen self.new) rank
+        ensures heard { HasHeardReport (coordinator_seen C.seen self.old)
+            (coordinator_seen C.seen self.new) rank
             report }
-        ensures hears { HearsOne (hub_seen C.seen self.old) (hub_seen C.seen self.new) }
+        ensures hears { HearsOne (coordinator_seen C.seen self.old)
+            (coordinator_seen C.seen self.new) }
     {
         let is_point = is_point(&report);
         let was_alive = self.book.is_alive(rank);
@@ -153,16 +165,19 @@ impl<R, O: Observer, C: Crew> Hub<'_, R, O, C> {
     }
 }
 
-impl<R, O, C: Crew> Hub<'_, R, O, C> {
-    ghost use Rattle.ug_coord.specs.HubViews.{hub_seen};
+impl<R, O, C: Crew> Coordinator<'_, R, O, C> {
+    ghost use Rattle.ug_coord.specs.CoordinatorViews.{coordinator_seen};
 
     // Loses all ranks, after a turn that failed.
     fn lose_all(&mut self)
-        requires on { (from : HubState) × IsOnIn IsBrokenOff from (hub_seen C.seen self.old) }
-        ensures on { (from : HubState) → IsOnIn IsBrokenOff from (hub_seen C.seen self.old)
-            → IsOnIn IsBrokenOff from (hub_seen C.seen self.new) }
+        requires on { (from : CoordinatorState)
+            × IsOnIn IsBrokenOff from (coordinator_seen C.seen self.old) }
+        ensures on { (from : CoordinatorState)
+            → IsOnIn IsBrokenOff from (coordinator_seen C.seen self.old)
+            → IsOnIn IsBrokenOff from (coordinator_seen C.seen self.new) }
         ensures all { AllDead self.new.book }
-        ensures quiet { IsQuiet (hub_seen C.seen self.old) (hub_seen C.seen self.new) }
+        ensures quiet { IsQuiet (coordinator_seen C.seen self.old)
+            (coordinator_seen C.seen self.new) }
     {
         for rank in 0..self.book.settings().solvers {
             self.lose(rank);

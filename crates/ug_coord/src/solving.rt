@@ -7,14 +7,14 @@ ghost use Rattle.ug_stream.specs.Streams.{first};
 ghost use Rattle.ug_checkpoint.specs.Savers.{IsKept};
 ghost use Rattle.ug_book.specs.Openings.{IsOpening, opening_book};
 ghost use Rattle.ug_coord.specs.Ends.{IsOver, is_ended, ranks_of};
-ghost use Rattle.ug_coord.specs.Hubs.{HasCoordinated, IsFresh, IsSetUpFrame};
+ghost use Rattle.ug_coord.specs.Coordinators.{HasCoordinated, IsFresh, IsSetUpFrame};
 ghost use Rattle.ug_coord.specs.Keeping.{AreEachSaved, Begins, HasConcluded, HasKept, IsBegun};
 ghost use Rattle.ug_coord.specs.Keeping.{IsKeptBy, IsKeptSafe, IsNothing, savers};
-ghost use Rattle.ug_coord.specs.Keepers.{kept_seen};
+ghost use Rattle.ug_coord.specs.Checkpointers.{kept_seen};
 
+use crate::checkpointer::Checkpointer;
+use crate::coordinator::Coordinator;
 use crate::ending::is_answered;
-use crate::hub::Hub;
-use crate::keeper::Keeper;
 use crate::pacing::Pacing;
 use std::alloc::{AllocError, Global};
 use std::sync::Wait;
@@ -52,8 +52,8 @@ pub fn coordinate<R: Wait, D: Disk, O: Observer, C: Crew + Drop>(
     requires kept { IfSome saver (λ s. IsKept s (D.seen disk.old).told) }
     requires fresh { IsFresh (C.seen crew) (ranks_of (opening_book opening.now)) }
 
-    // The book at the end comes from the opening's by the rules. A save was tried in each deed that
-    // is one, right behind the report that asks for it, and one at the end.
+    // The book at the end comes from the opening's by the rules. A save was tried in each action
+    // that is one, right behind the report that asks for it, and one at the end.
     ensures coordinated { HasCoordinated (opening_book opening.now) (C.seen crew).faults
         (C.seen result.crew) result.outcome.end
         (AreEachSaved saver result.outcome (D.seen disk.new))
@@ -67,8 +67,8 @@ pub fn coordinate<R: Wait, D: Disk, O: Observer, C: Crew + Drop>(
     ensures finished { IsNothing result.outcome ⊎ (C.finished result.crew ≡ true) }
 {
     tell_begin(host.observer, host.alloc, opening);
-    match keeper_of(host.alloc, opening, saver) {
-        Ok(keeper) => solve(host, opening, keeper, disk, crew),
+    match checkpointer_of(host.alloc, opening, saver) {
+        Ok(checkpointer) => solve(host, opening, checkpointer, disk, crew),
         Err(_) => Coordinated {
             crew,
             outcome: nothing(),
@@ -76,7 +76,7 @@ pub fn coordinate<R: Wait, D: Disk, O: Observer, C: Crew + Drop>(
     }
 }
 
-// Returns the outcome if memory runs out before the first deed.
+// Returns the outcome if memory runs out before the first action.
 fn nothing() -> Outcome
     ensures { IsNothing result }
 {
@@ -89,13 +89,17 @@ fn nothing() -> Outcome
 }
 
 // What saves the book of a run that began with the opening.
-fn keeper_of(alloc: Global, opening: &Opening, saver: Option<Saver>) -> Result<Keeper, AllocError>
-    ensures { IfOk result (λ keeper. Begins opening.now saver keeper.saves) }
+fn checkpointer_of(
+    alloc: Global,
+    opening: &Opening,
+    saver: Option<Saver>,
+) -> Result<Checkpointer, AllocError>
+    ensures { IfOk result (λ checkpointer. Begins opening.now saver checkpointer.saves) }
 {
     match saver {
-        None => Ok(Keeper { alloc, saves: None }),
+        None => Ok(Checkpointer { alloc, saves: None }),
         Some(saver) => match opening.copy() {
-            Ok(own) => Ok(Keeper {
+            Ok(own) => Ok(Checkpointer {
                 alloc,
                 saves: Some(Saves::new(saver, own)),
             }),
@@ -111,26 +115,26 @@ fn keeper_of(alloc: Global, opening: &Opening, saver: Option<Saver>) -> Result<K
 fn solve<R: Wait, D: Disk, O: Observer, C: Crew + Drop>(
     host: &Host<'_, R, O>,
     opening: &Opening,
-    mut keeper: Keeper,
+    mut checkpointer: Checkpointer,
     disk: &mut D,
     crew: C,
 ) -> Coordinated<C>
     requires opening { IsOpening opening.now }
-    requires kept { IsKeptBy (kept_seen keeper (D.seen disk.old)) }
-    requires begun { IfSome keeper.saves (IsBegun opening.now) }
+    requires kept { IsKeptBy (kept_seen checkpointer (D.seen disk.old)) }
+    requires begun { IfSome checkpointer.saves (IsBegun opening.now) }
     requires fresh { IsFresh (C.seen crew) (ranks_of (opening_book opening.now)) }
     ensures coordinated { HasCoordinated (opening_book opening.now) (C.seen crew).faults
         (C.seen result.crew) result.outcome.end
-        (AreEachSaved (savers keeper.saves) result.outcome (D.seen disk.new))
-        (IsKeptSafe (savers keeper.saves) (D.seen disk.old) (D.seen disk.new)) }
-    ensures kept { HasKept (opening_book opening.now) (savers keeper.saves) result.outcome
+        (AreEachSaved (savers checkpointer.saves) result.outcome (D.seen disk.new))
+        (IsKeptSafe (savers checkpointer.saves) (D.seen disk.old) (D.seen disk.new)) }
+    ensures kept { HasKept (opening_book opening.now) (savers checkpointer.saves) result.outcome
         (D.seen disk.old) (D.seen disk.new) }
     ensures finished { IsNothing result.outcome ⊎ (C.finished result.crew ≡ true) }
 {
     let parts = match parts_of(host.alloc, opening) {
         Ok(parts) => parts,
         Err(_) => {
-            drop(keeper);
+            drop(checkpointer);
             return Coordinated {
                 crew,
                 outcome: nothing(),
@@ -144,7 +148,7 @@ fn solve<R: Wait, D: Disk, O: Observer, C: Crew + Drop>(
         setup,
     } = parts;
     let pacing = Pacing::new(book.heard());
-    let mut hub = Hub {
+    let mut coordinator = Coordinator {
         host,
         book,
         crew,
@@ -155,8 +159,8 @@ fn solve<R: Wait, D: Disk, O: Observer, C: Crew + Drop>(
         wants: false,
         pacing,
     };
-    hub.run(&mut keeper, disk);
-    let Hub {
+    coordinator.run(&mut checkpointer, disk);
+    let Coordinator {
         book,
         streams,
         input,
@@ -164,26 +168,26 @@ fn solve<R: Wait, D: Disk, O: Observer, C: Crew + Drop>(
         wants,
         crew,
         ..
-    } = hub;
+    } = coordinator;
     drop(streams);
     drop(input);
     drop(frame);
     let end = end_of(book, wants);
-    let outcome = conclude(keeper, disk, end);
+    let outcome = conclude(checkpointer, disk, end);
     Coordinated { crew, outcome }
 }
 
 // Saves the ending book.
-fn conclude<D: Disk>(mut keeper: Keeper, disk: &mut D, end: End) -> Outcome
-    requires { IsKeptBy (kept_seen keeper (D.seen disk.old)) }
+fn conclude<D: Disk>(mut checkpointer: Checkpointer, disk: &mut D, end: End) -> Outcome
+    requires { IsKeptBy (kept_seen checkpointer (D.seen disk.old)) }
     ensures end { result.end ≡ end }
-    ensures concluded { HasConcluded result (kept_seen keeper (D.seen disk.old))
+    ensures concluded { HasConcluded result (kept_seen checkpointer (D.seen disk.old))
         (D.seen disk.new) }
 {
-    let last = keeper.keep_end(disk, &end);
-    let missed = keeper.missed();
-    let unsaved = keeper.unsaved();
-    drop(keeper);
+    let last = checkpointer.keep_end(disk, &end);
+    let missed = checkpointer.missed();
+    let unsaved = checkpointer.unsaved();
+    drop(checkpointer);
     Outcome {
         end,
         missed,

@@ -5,15 +5,15 @@ ghost use Rattle.ug_io.specs.Crews.{IsAlive, IsAway};
 ghost use Rattle.ug_frames.specs.Orders.{IsOrder};
 ghost use Rattle.ug_rules.specs.State.{BookState};
 ghost use Rattle.ug_book.specs.Reads.{IsOrderTold};
-ghost use Rattle.ug_coord.specs.Deeds.{HubState};
+ghost use Rattle.ug_coord.specs.Actions.{CoordinatorState};
 ghost use Rattle.ug_coord.specs.Ends.{ranks_of};
-ghost use Rattle.ug_coord.specs.Hubs.{AnyPhase, EndsFrom, IsClosedBelow, IsKeptIn, IsOnAs, IsOnIn};
-ghost use Rattle.ug_coord.specs.Hubs.{IsQuiet, IsSetUpFrame, IsStartedAs, Phase};
-ghost use Rattle.ug_coord.specs.Hubs.{launched_or_failed};
-ghost use Rattle.ug_coord.specs.Hubs.{sent_or_failed, without};
+ghost use Rattle.ug_coord.specs.Coordinators.{AnyPhase, EndsFrom, IsClosedBelow, IsKeptIn, IsOnAs, IsOnIn};
+ghost use Rattle.ug_coord.specs.Coordinators.{IsQuiet, IsSetUpFrame, IsStartedAs, Phase};
+ghost use Rattle.ug_coord.specs.Coordinators.{launched_or_failed};
+ghost use Rattle.ug_coord.specs.Coordinators.{sent_or_failed, without};
 ghost use Rattle.ug_coord.specs.Keeping.{KeptSeen};
 
-use crate::hub::Hub;
+use crate::coordinator::Coordinator;
 use std::sync::Wait;
 use ug_frames::encode_order;
 use ug_io::Crew;
@@ -22,14 +22,16 @@ use ug_rules::Told;
 // The frame of the order to end.
 const END: &[u8] = &[0, 0, 0, 1, 8];
 
-impl<R, O, C: Crew> Hub<'_, R, O, C> {
-    ghost use Rattle.ug_coord.specs.HubViews.{hub_seen};
+impl<R, O, C: Crew> Coordinator<'_, R, O, C> {
+    ghost use Rattle.ug_coord.specs.CoordinatorViews.{coordinator_seen};
 
     /// Loses the rank: nothing more is read from it, and the book declares it lost.
     pub fn lose(&mut self, rank: u32)
         requires { rank < ranks_of self.old.book }
-        ensures seen { hub_seen C.seen self.new ≡ without rank (hub_seen C.seen self.old) }
-        ensures quiet { IsQuiet (hub_seen C.seen self.old) (hub_seen C.seen self.new) }
+        ensures seen { coordinator_seen C.seen self.new
+            ≡ without rank (coordinator_seen C.seen self.old) }
+        ensures quiet { IsQuiet (coordinator_seen C.seen self.old)
+            (coordinator_seen C.seen self.new) }
         ensures frame { self.new.frame ≡ self.old.frame }
     {
         if self.crew.is_alive(rank) {
@@ -42,9 +44,11 @@ impl<R, O, C: Crew> Hub<'_, R, O, C> {
     fn send(&mut self, rank: u32) -> bool
         requires there { rank < ranks_of self.old.book }
         requires alive { IsAlive (C.seen self.old.crew) rank }
-        ensures sent { sent_or_failed result (hub_seen C.seen self.old) (hub_seen C.seen self.new)
+        ensures sent { sent_or_failed result (coordinator_seen C.seen self.old)
+            (coordinator_seen C.seen self.new)
             rank self.old.frame.items }
-        ensures quiet { IsQuiet (hub_seen C.seen self.old) (hub_seen C.seen self.new) }
+        ensures quiet { IsQuiet (coordinator_seen C.seen self.old)
+            (coordinator_seen C.seen self.new) }
         ensures frame { self.new.frame ≡ self.old.frame }
     {
         match self.crew.send(rank, &self.frame) {
@@ -60,9 +64,10 @@ impl<R, O, C: Crew> Hub<'_, R, O, C> {
     fn launch(&mut self, rank: u32) -> bool
         requires away { IsAway (C.seen self.old.crew) rank }
         requires there { rank < ranks_of self.old.book }
-        ensures launched { launched_or_failed result (hub_seen C.seen self.old)
-            (hub_seen C.seen self.new) rank }
-        ensures quiet { IsQuiet (hub_seen C.seen self.old) (hub_seen C.seen self.new) }
+        ensures launched { launched_or_failed result (coordinator_seen C.seen self.old)
+            (coordinator_seen C.seen self.new) rank }
+        ensures quiet { IsQuiet (coordinator_seen C.seen self.old)
+            (coordinator_seen C.seen self.new) }
         ensures frame { self.new.frame ≡ self.old.frame }
     {
         match self.crew.launch(rank) {
@@ -76,15 +81,16 @@ impl<R, O, C: Crew> Hub<'_, R, O, C> {
 
     // Starts the rank, which is not alive, and sends it the problem, which the frame contains.
     fn start(&mut self, rank: u32)
-        requires on { (phase : Phase) × (from : HubState)
-            × IsStartedAs rank phase from (hub_seen C.seen self.old) }
+        requires on { (phase : Phase) × (from : CoordinatorState)
+            × IsStartedAs rank phase from (coordinator_seen C.seen self.old) }
         requires there { rank < ranks_of self.old.book }
         requires frame { IsSetUpFrame self.old.book self.old.frame.items }
-        ensures on { (phase : Phase) (from : HubState)
-            → IsStartedAs rank phase from (hub_seen C.seen self.old)
-            → IsStartedAs (suc rank) phase from (hub_seen C.seen self.new) }
+        ensures on { (phase : Phase) (from : CoordinatorState)
+            → IsStartedAs rank phase from (coordinator_seen C.seen self.old)
+            → IsStartedAs (suc rank) phase from (coordinator_seen C.seen self.new) }
         ensures frame { IsSetUpFrame self.new.book self.new.frame.items }
-        ensures quiet { IsQuiet (hub_seen C.seen self.old) (hub_seen C.seen self.new) }
+        ensures quiet { IsQuiet (coordinator_seen C.seen self.old)
+            (coordinator_seen C.seen self.new) }
     {
         if self.launch(rank) {
             self.send(rank);
@@ -94,13 +100,14 @@ impl<R, O, C: Crew> Hub<'_, R, O, C> {
     /// Starts each rank, none of which is alive, and sends it the problem, which the frame
     /// contains.
     pub fn start_all(&mut self)
-        requires on { (phase : Phase) × (from : HubState)
-            × IsStartedAs 0 phase from (hub_seen C.seen self.old) }
+        requires on { (phase : Phase) × (from : CoordinatorState)
+            × IsStartedAs 0 phase from (coordinator_seen C.seen self.old) }
         requires frame { IsSetUpFrame self.old.book self.old.frame.items }
-        ensures on { (phase : Phase) (from : HubState)
-            → IsStartedAs 0 phase from (hub_seen C.seen self.old)
-            → IsStartedAs (ranks_of self.old.book) phase from (hub_seen C.seen self.new) }
-        ensures quiet { IsQuiet (hub_seen C.seen self.old) (hub_seen C.seen self.new) }
+        ensures on { (phase : Phase) (from : CoordinatorState)
+            → IsStartedAs 0 phase from (coordinator_seen C.seen self.old)
+            → IsStartedAs (ranks_of self.old.book) phase from (coordinator_seen C.seen self.new) }
+        ensures quiet { IsQuiet (coordinator_seen C.seen self.old)
+            (coordinator_seen C.seen self.new) }
     {
         for rank in 0..self.book.settings().solvers {
             self.start(rank);
@@ -110,14 +117,15 @@ impl<R, O, C: Crew> Hub<'_, R, O, C> {
     // Sends an order that just left the book to its rank, if that is alive.
     fn tell(&mut self, told: Told)
         requires order { IsOrder told.order }
-        requires on { (from : HubState) × (before : BookState)
-            × IsOnIn AnyPhase from (record (hub_seen C.seen self.old) { book = before })
+        requires on { (from : CoordinatorState) × (before : BookState)
+            × IsOnIn AnyPhase from (record (coordinator_seen C.seen self.old) { book = before })
             × IsOrderTold before self.old.book told }
-        ensures on { (phase : Phase) (from : HubState) (before : BookState)
-            → IsOnAs phase from (record (hub_seen C.seen self.old) { book = before })
+        ensures on { (phase : Phase) (from : CoordinatorState) (before : BookState)
+            → IsOnAs phase from (record (coordinator_seen C.seen self.old) { book = before })
             → IsOrderTold before self.old.book told
-            → IsOnAs phase from (hub_seen C.seen self.new) }
-        ensures quiet { IsQuiet (hub_seen C.seen self.old) (hub_seen C.seen self.new) }
+            → IsOnAs phase from (coordinator_seen C.seen self.new) }
+        ensures quiet { IsQuiet (coordinator_seen C.seen self.old)
+            (coordinator_seen C.seen self.new) }
     {
         let rank = told.rank;
         if !self.crew.is_alive(rank) {
@@ -139,10 +147,13 @@ impl<R, O, C: Crew> Hub<'_, R, O, C> {
 
     // Sends the first queued order. Returns false if none is queued.
     fn tell_next(&mut self) -> bool
-        requires on { (from : HubState) × IsOnIn AnyPhase from (hub_seen C.seen self.old) }
-        ensures on { (phase : Phase) (from : HubState) → IsOnAs phase from (hub_seen C.seen self.old)
-            → IsOnAs phase from (hub_seen C.seen self.new) }
-        ensures quiet { IsQuiet (hub_seen C.seen self.old) (hub_seen C.seen self.new) }
+        requires on { (from : CoordinatorState)
+            × IsOnIn AnyPhase from (coordinator_seen C.seen self.old) }
+        ensures on { (phase : Phase) (from : CoordinatorState)
+            → IsOnAs phase from (coordinator_seen C.seen self.old)
+            → IsOnAs phase from (coordinator_seen C.seen self.new) }
+        ensures quiet { IsQuiet (coordinator_seen C.seen self.old)
+            (coordinator_seen C.seen self.new) }
         ensures none { result ≡ false → self.new.book.orders ≡ [] }
     {
         // Each order of a book has a frame.
@@ -158,9 +169,9 @@ impl<R, O, C: Crew> Hub<'_, R, O, C> {
 
     // Sends the end to the rank, if it is alive.
     fn end(&mut self, rank: u32)
-        ensures closed { (from : HubState) (old new : KeptSeen)
-            → IsClosedBelow rank from (hub_seen C.seen self.old) old new
-            → IsClosedBelow (suc rank) from (hub_seen C.seen self.new) old new }
+        ensures closed { (from : CoordinatorState) (old new : KeptSeen)
+            → IsClosedBelow rank from (coordinator_seen C.seen self.old) old new
+            → IsClosedBelow (suc rank) from (coordinator_seen C.seen self.new) old new }
         ensures same { (self.new.book ≡ self.old.book) × (self.new.wants ≡ self.old.wants) }
         ensures pacing { self.new.pacing ≡ self.old.pacing }
     {
@@ -174,9 +185,9 @@ impl<R, O, C: Crew> Hub<'_, R, O, C> {
 
     /// Sends the end to each live rank, and waits until all have ended.
     pub fn close(&mut self)
-        ensures ends { (from : HubState) (old new : KeptSeen)
-            → IsKeptIn AnyPhase from (hub_seen C.seen self.old) old new
-            → EndsFrom from (hub_seen C.seen self.new) old new }
+        ensures ends { (from : CoordinatorState) (old new : KeptSeen)
+            → IsKeptIn AnyPhase from (coordinator_seen C.seen self.old) old new
+            → EndsFrom from (coordinator_seen C.seen self.new) old new }
         ensures finished { C.finished self.new.crew ≡ true }
         ensures same { (self.new.book ≡ self.old.book) × (self.new.wants ≡ self.old.wants) }
         ensures pacing { self.new.pacing ≡ self.old.pacing }
@@ -188,15 +199,18 @@ impl<R, O, C: Crew> Hub<'_, R, O, C> {
     }
 }
 
-impl<R: Wait, O, C: Crew> Hub<'_, R, O, C> {
-    ghost use Rattle.ug_coord.specs.HubViews.{hub_seen};
+impl<R: Wait, O, C: Crew> Coordinator<'_, R, O, C> {
+    ghost use Rattle.ug_coord.specs.CoordinatorViews.{coordinator_seen};
 
     /// Sends all queued orders.
     pub fn tell_all(&mut self)
-        requires on { (from : HubState) × IsOnIn AnyPhase from (hub_seen C.seen self.old) }
-        ensures on { (phase : Phase) (from : HubState) → IsOnAs phase from (hub_seen C.seen self.old)
-            → IsOnAs phase from (hub_seen C.seen self.new) }
-        ensures quiet { IsQuiet (hub_seen C.seen self.old) (hub_seen C.seen self.new) }
+        requires on { (from : CoordinatorState)
+            × IsOnIn AnyPhase from (coordinator_seen C.seen self.old) }
+        ensures on { (phase : Phase) (from : CoordinatorState)
+            → IsOnAs phase from (coordinator_seen C.seen self.old)
+            → IsOnAs phase from (coordinator_seen C.seen self.new) }
+        ensures quiet { IsQuiet (coordinator_seen C.seen self.old)
+            (coordinator_seen C.seen self.new) }
         ensures all { self.new.wants ≡ false → self.new.book.orders ≡ [] }
     {
         for _ in self.host.rt.forever() {

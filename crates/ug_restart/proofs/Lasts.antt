@@ -2,7 +2,7 @@
 use Rattle.std.proofs.Common.{◌≡◌, Option, None, Some, refl, sym, subst}
 use Rattle.ug_disk.specs.declared.slot.Slot.{Slot}
 use Rattle.ug_disk.specs.Histories.{History, slot_of}
-use Rattle.ug_checkpoint.specs.Keepers.{next_after}
+use Rattle.ug_checkpoint.specs.SlotPairs.{next_after}
 use Rattle.ug_image.specs.declared.image.Image.{Image}
 use Rattle.ug_checkpoint.specs.declared.found.Found.{Found}
 use Rattle.ug_checkpoint.specs.Bodies.{Has}

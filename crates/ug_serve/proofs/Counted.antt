@@ -18,7 +18,7 @@ use Rattle.ug_frames.specs.declared.report.Report.{Report}
 use Rattle.ug_frames.specs.declared.report.Report.TheVariants.{Ready, Solution, Hand, State, Done}
 use Rattle.ug_frames.specs.declared.report.Report.TheVariants.{Ended}
 use Rattle.ug_serve.specs.CrewLaws.{reports_of}
-use Rattle.ug_serve.specs.Deeds.{Basis, Deed, Came, Took, Told}
+use Rattle.ug_serve.specs.Actions.{Basis, Action, Came, Took, Told}
 use Rattle.ug_serve.specs.Laws.{AreOnce, tickets_in, tickets_of}
 use Rattle.ug_serve.specs.Transcripts.{AreSaid, IsKnown, IsUnder, Ordered, hands_among, last_work, later_of, order_of, reports_in, since_order, since_work, told_since, turned, work_of}
 use Rattle.ug_serve.proofs.Crewed.{once_turned, reports_turned, sent_on, taken_of, tickets_sent, took_turned, work_is}
@@ -101,23 +101,23 @@ hands_none ticket (Done own cutoff count ending ∷ reports) none =
 hands_none ticket (Ended ∷ reports) none =
     hands_none ticket reports (λ number changes there. none number changes (behind _ reports _ there))
 
-hands_turned : (ticket : Ticket) (past deeds : List Deed)
-    → hands_under ticket (reports_in (turned past deeds))
-    ≡ hands_under ticket (reports_in past) + hands_under ticket (reports_of deeds)
+hands_turned : (ticket : Ticket) (past actions : List Action)
+    → hands_under ticket (reports_in (turned past actions))
+    ≡ hands_under ticket (reports_in past) + hands_under ticket (reports_of actions)
 hands_turned ticket past [] = omega arith
-hands_turned ticket past (Came bytes ∷ deeds) = hands_turned ticket (Came bytes ∷ past) deeds
-hands_turned ticket past (Took order ∷ deeds) = hands_turned ticket (Took order ∷ past) deeds
-hands_turned ticket past (Told own ∷ deeds) = omega (
+hands_turned ticket past (Came bytes ∷ actions) = hands_turned ticket (Came bytes ∷ past) actions
+hands_turned ticket past (Took order ∷ actions) = hands_turned ticket (Took order ∷ past) actions
+hands_turned ticket past (Told own ∷ actions) = omega (
   arith,
-  hands_turned ticket (Told own ∷ past) deeds,
+  hands_turned ticket (Told own ∷ past) actions,
   hands_first ticket own (reports_in past),
-  hands_first ticket own (reports_of deeds),
+  hands_first ticket own (reports_of actions),
 )
 
 -- ---- under the last order of work
 
 -- behind an order: none yet where it is one of work
-counted_by : (basis : Basis) (own : Option Ordered) (order : Order) (past : List Deed) (work : Ordered)
+counted_by : (basis : Basis) (own : Option Ordered) (order : Order) (past : List Action) (work : Ordered)
     → AreSaid basis past → AreOnce (tickets_of own ++ tickets_in past)
     → later_of own (last_work past) ≡ Some work
     → (AreOnce (tickets_in past) → last_work past ≡ Some work
@@ -131,7 +131,7 @@ counted_by basis (Some own) order past work said once last before =
     (told_ticket basis past (Hand work.ticket number changes) work.ticket refl said (told_there past _ there)))))
 
 -- the hands since the last order of work are all that were sent under its ticket
-counted : (basis : Basis) (past : List Deed) (work : Ordered) → AreSaid basis past
+counted : (basis : Basis) (past : List Action) (work : Ordered) → AreSaid basis past
     → AreOnce (tickets_in past) → last_work past ≡ Some work
     → hands_among (told_since past) ≡ hands_under work.ticket (reports_in past)
 counted basis [] work said once last = absurd (omega (arith, ap work_count last))
@@ -154,7 +154,7 @@ counted basis (Told (Done own cutoff count ending) ∷ past) work said once last
     counted basis past work said.1 once last
 counted basis (Told Ended ∷ past) work said once last = counted basis past work said.1 once last
 
-last_by : (order : Order) (own : Option Ordered) (past : List Deed) (work : Ordered)
+last_by : (order : Order) (own : Option Ordered) (past : List Action) (work : Ordered)
     → ((w : Ordered) → own ≡ Some w → order ≡ order_of w) → later_of own (last_work past) ≡ Some work
     → (last_work past ≡ Some work → Contains past (Took (order_of work)))
     → Contains (Took order ∷ past) (Took (order_of work))
@@ -163,7 +163,7 @@ last_by order (Some own) past work is last before =
     subst (λ (o : Order). Contains (Took order ∷ past) (Took o))
     (is own refl ∙ ap (λ (w : Ordered). order_of w) (same_work own work last)) (in_front (Took order) past)
 
-last_taken : (past : List Deed) (work : Ordered) → last_work past ≡ Some work
+last_taken : (past : List Action) (work : Ordered) → last_work past ≡ Some work
     → Contains past (Took (order_of work))
 last_taken [] work last = absurd (omega (arith, ap work_count last))
 last_taken (Came bytes ∷ past) work last = behind (Came bytes) past _ (last_taken past work last)
@@ -172,29 +172,29 @@ last_taken (Took order ∷ past) work last =
 last_taken (Told report ∷ past) work last = behind (Told report) past _ (last_taken past work last)
 
 -- what came since the order of work came
-since_by : (own : Option Ordered) (order : Order) (past : List Deed) (deed : Deed)
-    → Contains (since_order own order (since_work past)) deed
-    → (Contains (since_work past) deed → Contains past deed) → Contains (Took order ∷ past) deed
-since_by None order past deed there before = elim (first_or (Took order) (since_work past) deed there) [
+since_by : (own : Option Ordered) (order : Order) (past : List Action) (action : Action)
+    → Contains (since_order own order (since_work past)) action
+    → (Contains (since_work past) action → Contains past action) → Contains (Took order ∷ past) action
+since_by None order past action there before = elim (first_or (Took order) (since_work past) action there) [
   | inl same ↦ subst (Contains (Took order ∷ past)) same (in_front (Took order) past)
-  | inr later ↦ behind (Took order) past deed (before later)
+  | inr later ↦ behind (Took order) past action (before later)
 ]
-since_by (Some own) order past deed there before = absurd (nothing_in deed there)
+since_by (Some own) order past action there before = absurd (nothing_in action there)
 
-since_came : (past : List Deed) (deed : Deed) → Contains (since_work past) deed → Contains past deed
-since_came [] deed there = there
-since_came (Came bytes ∷ past) deed there = elim (first_or (Came bytes) (since_work past) deed there) [
+since_came : (past : List Action) (action : Action) → Contains (since_work past) action → Contains past action
+since_came [] action there = there
+since_came (Came bytes ∷ past) action there = elim (first_or (Came bytes) (since_work past) action there) [
   | inl same ↦ subst (Contains (Came bytes ∷ past)) same (in_front (Came bytes) past)
-  | inr later ↦ behind (Came bytes) past deed (since_came past deed later)
+  | inr later ↦ behind (Came bytes) past action (since_came past action later)
 ]
-since_came (Took order ∷ past) deed there =
-    since_by (work_of order) order past deed there (since_came past deed)
-since_came (Told report ∷ past) deed there = elim (first_or (Told report) (since_work past) deed there) [
+since_came (Took order ∷ past) action there =
+    since_by (work_of order) order past action there (since_came past action)
+since_came (Told report ∷ past) action there = elim (first_or (Told report) (since_work past) action there) [
   | inl same ↦ subst (Contains (Told report ∷ past)) same (in_front (Told report) past)
-  | inr later ↦ behind (Told report) past deed (since_came past deed later)
+  | inr later ↦ behind (Told report) past action (since_came past action later)
 ]
 
-told_among : (past : List Deed) (report : Report) → Contains past (Told report)
+told_among : (past : List Action) (report : Report) → Contains past (Told report)
     → Contains (reports_in past) report
 told_among [] report there = absurd (nothing_in _ there)
 told_among (Came bytes ∷ past) report there = elim (first_or (Came bytes) past _ there) [
@@ -254,27 +254,27 @@ known_more (Some c) P Q more known = more c known
 
 module _ (p : Instance) (sent : List Order) (heard : List Report) (report : Report)
     (t : IsSpoken p sent heard report) where
-  abbrev past_of : List Deed
-  past_of = turned [] t.deeds
+  abbrev past_of : List Action
+  past_of = turned [] t.actions
 
   was_sent : (order : Order) → Contains past_of (Took order) → Contains sent order
-  was_sent order there = elim (took_turned [] t.deeds order there) [
+  was_sent order there = elim (took_turned [] t.actions order there) [
     | inl none ↦ absurd (nothing_in (Took order) none)
     | inr own ↦ subst (λ (os : List Order). Contains os order) (sym t.taken)
-        (Contains-append_left (taken_of t.deeds) t.later order own)
+        (Contains-append_left (taken_of t.actions) t.later order own)
   ]
 
   was_heard : (own : Report) → Contains past_of (Told own) → Contains heard own
-  was_heard own there = elim (reports_turned [] t.deeds own (told_among past_of own there)) [
+  was_heard own there = elim (reports_turned [] t.actions own (told_among past_of own there)) [
     | inl none ↦ absurd (nothing_in own none)
     | inr told ↦ subst (λ (rs : List Report). Contains rs own) t.told told
   ]
 
   once_past : AreOnce (tickets_sent sent) → AreOnce (tickets_in past_of)
   once_past once =
-      once_turned [] t.deeds tt
-      (once_front (tickets_sent (taken_of t.deeds)) (tickets_sent t.later)
-      (subst (λ (ts : List Ticket). AreOnce ts) (sent_on (taken_of t.deeds) t.later)
+      once_turned [] t.actions tt
+      (once_front (tickets_sent (taken_of t.actions)) (tickets_sent t.later)
+      (subst (λ (ts : List Ticket). AreOnce ts) (sent_on (taken_of t.actions) t.later)
       (subst (λ (os : List Order). AreOnce (tickets_sent os)) t.taken once)))
       (λ ticket here there. absurd (nothing_in ticket here))
 
@@ -293,11 +293,11 @@ module _ (p : Instance) (sent : List Order) (heard : List Report) (report : Repo
   hands_heard once ticket u =
       counted own_basis past_of u.work t.before (once_past once) u.last
       ∙ ap (λ (own : Ticket). hands_under own (reports_in past_of)) u.its
-      ∙ none_first (hands_turned ticket [] t.deeds) ∙ ap (hands_under ticket) t.told
+      ∙ none_first (hands_turned ticket [] t.actions) ∙ ap (hands_under ticket) t.told
     where
       none_first : hands_under ticket (reports_in past_of)
-          ≡ hands_under ticket (reports_in []) + hands_under ticket (reports_of t.deeds)
-          → hands_under ticket (reports_in past_of) ≡ hands_under ticket (reports_of t.deeds)
+          ≡ hands_under ticket (reports_in []) + hands_under ticket (reports_of t.actions)
+          → hands_under ticket (reports_in past_of) ≡ hands_under ticket (reports_of t.actions)
       none_first same = omega (arith, same)
 
 pub under_spoken : (p : Instance) (sent : List Order) (heard : List Report) (ticket : Ticket) (x : List ℤ)
@@ -317,7 +317,7 @@ hand_spoken p sent heard ticket number changes once t =
       valid = box.valid;
       below = box.below;
       won = λ race. was_sent p sent heard own t (Winner ticket)
-          (since_came (turned [] t.deeds) (Took (Winner ticket)) (box.won race));
+          (since_came (turned [] t.actions) (Took (Winner ticket)) (box.won race));
     }
 
 pub done_spoken : (p : Instance) (sent : List Order) (heard : List Report) (ticket : Ticket)
@@ -327,7 +327,7 @@ pub done_spoken : (p : Instance) (sent : List Order) (heard : List Report) (tick
 done_spoken p sent heard ticket cutoff count ending once t =
     let own = Done ticket cutoff count ending in
     let end = t.said.1 in
-    let past = turned [] t.deeds in
+    let past = turned [] t.actions in
     record {
       under = under_sent p sent heard own t ticket end.under;
       counted = end.counted ∙ hands_heard p sent heard own t once ticket end.under;

@@ -21,11 +21,11 @@ use Rattle.ug_frames.specs.ReportFrames as reports
 use Rattle.ug_frames.specs.Reports.{ticket_of}
 use Rattle.ug_frames.specs.Honest.{AreHonest, IsBoxOfHand}
 use Rattle.ug_stream.specs.Streams.{Waiting}
-use Rattle.ug_serve.specs.Courses.{IsCourse, ServerState, beginning}
+use Rattle.ug_serve.specs.Traces.{IsTrace, ServerState, beginning}
 use Rattle.ug_serve.specs.CrewLaws.{AreReportsAt, reports_of}
-use Rattle.ug_serve.specs.Deeds.{Deed, Came, Took, Told}
+use Rattle.ug_serve.specs.Actions.{Action, Came, Took, Told}
 use Rattle.ug_serve.specs.Queues.{heard_in}
-use Rattle.ug_serve.specs.Staffs.{AreWorked, IsWorked, told_at}
+use Rattle.ug_serve.specs.SimWorkers.{AreWorked, IsWorked, told_at}
 use Rattle.ug_serve.specs.Transcripts.{IsTranscript, Ordered, order_of, reports_in, turned, work_of}
 use Rattle.ug_serve.specs.Laws.{AreOnce, IsOrderedTo, IsSetUpFor, tickets_by, tickets_in, tickets_of, told_by}
 use Rattle.ug_serve.proofs.Heard.{front_orders, workers_are_heard}
@@ -37,108 +37,108 @@ use Rattle.ug_serve.proofs.Wires.{fed_fine, fed_so}
 -- ---- what a worker received
 
 -- the orders that were taken, in order
-abbrev pub taken_of : List Deed → List Order
+abbrev pub taken_of : List Action → List Order
 taken_of [] = []
-taken_of (Came bytes ∷ deeds) = taken_of deeds
-taken_of (Took order ∷ deeds) = order ∷ taken_of deeds
-taken_of (Told report ∷ deeds) = taken_of deeds
+taken_of (Came bytes ∷ actions) = taken_of actions
+taken_of (Took order ∷ actions) = order ∷ taken_of actions
+taken_of (Told report ∷ actions) = taken_of actions
 
-pub taken_carried : (a : ServerState) (deeds : List Deed) (b : ServerState) → IsCourse a deeds b
-    → All orders.IsCarried (taken_of deeds)
+pub taken_carried : (a : ServerState) (actions : List Action) (b : ServerState) → IsTrace a actions b
+    → All orders.IsCarried (taken_of actions)
 taken_carried a [] b same = All-nil orders.IsCarried
-taken_carried a (Came bytes ∷ deeds) b (mid, does, more) = taken_carried mid deeds b more
-taken_carried a (Took order ∷ deeds) b (mid, does, more) =
-    All-cons orders.IsCarried order (taken_of deeds) does.given.carried (taken_carried mid deeds b more)
-taken_carried a (Told report ∷ deeds) b (mid, does, more) = taken_carried mid deeds b more
+taken_carried a (Came bytes ∷ actions) b (mid, does, more) = taken_carried mid actions b more
+taken_carried a (Took order ∷ actions) b (mid, does, more) =
+    All-cons orders.IsCarried order (taken_of actions) does.given.carried (taken_carried mid actions b more)
+taken_carried a (Told report ∷ actions) b (mid, does, more) = taken_carried mid actions b more
 
 -- it is their frames, and what waits
-pub heard_parts : (a : ServerState) (deeds : List Deed) (b : ServerState) (before : List ℕ) → a.waiting.bad ≡ false
-    → heard_in a.said ≡ before ++ a.waiting.bytes → IsCourse a deeds b
-    → heard_in b.said ≡ (before ++ flat_map orders.spelled (taken_of deeds)) ++ b.waiting.bytes
-heard_parts a [] b before fine same course =
-    ap (λ (s : ServerState). heard_in s.said) course ∙ same
+pub heard_parts : (a : ServerState) (actions : List Action) (b : ServerState) (before : List ℕ) → a.waiting.bad ≡ false
+    → heard_in a.said ≡ before ++ a.waiting.bytes → IsTrace a actions b
+    → heard_in b.said ≡ (before ++ flat_map orders.spelled (taken_of actions)) ++ b.waiting.bytes
+heard_parts a [] b before fine same trace =
+    ap (λ (s : ServerState). heard_in s.said) trace ∙ same
     ∙ ap (λ (t : List ℕ). t ++ a.waiting.bytes) (sym (append-nil before))
-    ∙ ap (λ (s : ServerState). (before ++ []) ++ s.waiting.bytes) (sym course)
-heard_parts a (Came bytes ∷ deeds) b before fine same (mid, does, more) =
-    heard_parts mid deeds b before
+    ∙ ap (λ (s : ServerState). (before ++ []) ++ s.waiting.bytes) (sym trace)
+heard_parts a (Came bytes ∷ actions) b before fine same (mid, does, more) =
+    heard_parts mid actions b before
     (ap (λ (s : ServerState). s.waiting.bad) does ∙ fed_fine a.waiting bytes fine)
     (ap (λ (s : ServerState). heard_in s.said) does ∙ heard_more a.said bytes
     ∙ ap (λ (t : List ℕ). t ++ bytes) same ∙ append_assoc before a.waiting.bytes bytes
     ∙ ap (λ (w : Waiting). before ++ w.bytes)
     (sym (ap (λ (s : ServerState). s.waiting) does ∙ fed_so a.waiting bytes fine))) more
-heard_parts a (Took order ∷ deeds) b before fine same (mid, does, more) =
-    heard_parts mid deeds b (before ++ orders.spelled order) does.given.still
+heard_parts a (Took order ∷ actions) b before fine same (mid, does, more) =
+    heard_parts mid actions b (before ++ orders.spelled order) does.given.still
     (ap (λ (s : List Said). heard_in s) does.said ∙ same
     ∙ ap (λ (t : List ℕ). before ++ t) does.given.parts
     ∙ sym (append_assoc before (orders.spelled order) mid.waiting.bytes)) more
     ∙ ap (λ (t : List ℕ). t ++ b.waiting.bytes)
-    (append_assoc before (orders.spelled order) (flat_map orders.spelled (taken_of deeds)))
-heard_parts a (Told report ∷ deeds) b before fine same (mid, does, more) =
-    heard_parts mid deeds b before (ap (λ (w : Waiting). w.bad) does.waiting ∙ fine)
+    (append_assoc before (orders.spelled order) (flat_map orders.spelled (taken_of actions)))
+heard_parts a (Told report ∷ actions) b before fine same (mid, does, more) =
+    heard_parts mid actions b before (ap (λ (w : Waiting). w.bad) does.waiting ∙ fine)
     (ap (λ (s : List Said). heard_in s) does.said ∙ heard_still a.said (reports.spelled report) ∙ same
     ∙ ap (λ (w : Waiting). before ++ w.bytes) (sym does.waiting)) more
 
 -- ---- reports and orders, the latest first
 
-pub reports_turned : (past deeds : List Deed) (report : Report)
-    → Contains (reports_in (turned past deeds)) report
-    → Contains (reports_in past) report ⊎ Contains (reports_of deeds) report
+pub reports_turned : (past actions : List Action) (report : Report)
+    → Contains (reports_in (turned past actions)) report
+    → Contains (reports_in past) report ⊎ Contains (reports_of actions) report
 reports_turned past [] report there = inl there
-reports_turned past (Came bytes ∷ deeds) report there =
-    reports_turned (Came bytes ∷ past) deeds report there
-reports_turned past (Took order ∷ deeds) report there =
-    reports_turned (Took order ∷ past) deeds report there
-reports_turned past (Told own ∷ deeds) report there =
-    elim (reports_turned (Told own ∷ past) deeds report there) [
+reports_turned past (Came bytes ∷ actions) report there =
+    reports_turned (Came bytes ∷ past) actions report there
+reports_turned past (Took order ∷ actions) report there =
+    reports_turned (Took order ∷ past) actions report there
+reports_turned past (Told own ∷ actions) report there =
+    elim (reports_turned (Told own ∷ past) actions report there) [
       | inl earlier ↦ elim (first_or own (reports_in past) report earlier) [
         | inl same ↦
-            inr (subst (Contains (own ∷ reports_of deeds)) same (in_front own (reports_of deeds)))
+            inr (subst (Contains (own ∷ reports_of actions)) same (in_front own (reports_of actions)))
         | inr before ↦ inl before
       ]
-      | inr later ↦ inr (behind own (reports_of deeds) report later)
+      | inr later ↦ inr (behind own (reports_of actions) report later)
     ]
 
-past_kept : (past deeds : List Deed) (report : Report) → Contains (reports_in past) report
-    → Contains (reports_in (turned past deeds)) report
+past_kept : (past actions : List Action) (report : Report) → Contains (reports_in past) report
+    → Contains (reports_in (turned past actions)) report
 past_kept past [] report there = there
-past_kept past (Came bytes ∷ deeds) report there = past_kept (Came bytes ∷ past) deeds report there
-past_kept past (Took order ∷ deeds) report there = past_kept (Took order ∷ past) deeds report there
-past_kept past (Told own ∷ deeds) report there =
-    past_kept (Told own ∷ past) deeds report (behind own (reports_in past) report there)
+past_kept past (Came bytes ∷ actions) report there = past_kept (Came bytes ∷ past) actions report there
+past_kept past (Took order ∷ actions) report there = past_kept (Took order ∷ past) actions report there
+past_kept past (Told own ∷ actions) report there =
+    past_kept (Told own ∷ past) actions report (behind own (reports_in past) report there)
 
-pub told_kept : (past deeds : List Deed) (report : Report) → Contains (reports_of deeds) report
-    → Contains (reports_in (turned past deeds)) report
+pub told_kept : (past actions : List Action) (report : Report) → Contains (reports_of actions) report
+    → Contains (reports_in (turned past actions)) report
 told_kept past [] report there = absurd (nothing_in report there)
-told_kept past (Came bytes ∷ deeds) report there = told_kept (Came bytes ∷ past) deeds report there
-told_kept past (Took order ∷ deeds) report there = told_kept (Took order ∷ past) deeds report there
-told_kept past (Told own ∷ deeds) report there = elim (first_or own (reports_of deeds) report there) [
-  | inl same ↦ past_kept (Told own ∷ past) deeds report
+told_kept past (Came bytes ∷ actions) report there = told_kept (Came bytes ∷ past) actions report there
+told_kept past (Took order ∷ actions) report there = told_kept (Took order ∷ past) actions report there
+told_kept past (Told own ∷ actions) report there = elim (first_or own (reports_of actions) report there) [
+  | inl same ↦ past_kept (Told own ∷ past) actions report
       (subst (Contains (own ∷ reports_in past)) same (in_front own (reports_in past)))
-  | inr later ↦ told_kept (Told own ∷ past) deeds report later
+  | inr later ↦ told_kept (Told own ∷ past) actions report later
 ]
 
-pub took_turned : (past deeds : List Deed) (order : Order) → Contains (turned past deeds) (Took order)
-    → Contains past (Took order) ⊎ Contains (taken_of deeds) order
+pub took_turned : (past actions : List Action) (order : Order) → Contains (turned past actions) (Took order)
+    → Contains past (Took order) ⊎ Contains (taken_of actions) order
 took_turned past [] order there = inl there
-took_turned past (Came bytes ∷ deeds) order there =
-    elim (took_turned (Came bytes ∷ past) deeds order there) [
+took_turned past (Came bytes ∷ actions) order there =
+    elim (took_turned (Came bytes ∷ past) actions order there) [
       | inl earlier ↦ elim (first_or (Came bytes) past (Took order) earlier) [
         | inl same ↦ absurd (came_is_no_order bytes order same)
         | inr before ↦ inl before
       ]
       | inr later ↦ inr later
     ]
-took_turned past (Took own ∷ deeds) order there =
-    elim (took_turned (Took own ∷ past) deeds order there) [
+took_turned past (Took own ∷ actions) order there =
+    elim (took_turned (Took own ∷ past) actions order there) [
       | inl earlier ↦ elim (first_or (Took own) past (Took order) earlier) [
-        | inl same ↦ inr (subst (Contains (own ∷ taken_of deeds)) (same_order own order same)
-            (in_front own (taken_of deeds)))
+        | inl same ↦ inr (subst (Contains (own ∷ taken_of actions)) (same_order own order same)
+            (in_front own (taken_of actions)))
         | inr before ↦ inl before
       ]
-      | inr later ↦ inr (behind own (taken_of deeds) order later)
+      | inr later ↦ inr (behind own (taken_of actions) order later)
     ]
-took_turned past (Told report ∷ deeds) order there =
-    elim (took_turned (Told report ∷ past) deeds order there) [
+took_turned past (Told report ∷ actions) order there =
+    elim (took_turned (Told report ∷ past) actions order there) [
       | inl earlier ↦ elim (first_or (Told report) past (Took order) earlier) [
         | inl same ↦ absurd (told_is_no_order report order same)
         | inr before ↦ inl before
@@ -174,19 +174,19 @@ apart_more (Some work) ts us sent apart t here there = elim (first_or work.ticke
   | inr later ↦ apart t later (behind work.ticket us t there)
 ]
 
--- tickets that stand once in the orders taken do so in the deeds
-pub once_turned : (past deeds : List Deed) → AreOnce (tickets_in past) → AreOnce (tickets_sent (taken_of deeds))
-    → ((t : Ticket) → Contains (tickets_in past) t → Contains (tickets_sent (taken_of deeds)) t → ⊥)
-    → AreOnce (tickets_in (turned past deeds))
+-- tickets that stand once in the orders taken do so in the actions
+pub once_turned : (past actions : List Action) → AreOnce (tickets_in past) → AreOnce (tickets_sent (taken_of actions))
+    → ((t : Ticket) → Contains (tickets_in past) t → Contains (tickets_sent (taken_of actions)) t → ⊥)
+    → AreOnce (tickets_in (turned past actions))
 once_turned past [] once sent apart = once
-once_turned past (Came bytes ∷ deeds) once sent apart = once_turned (Came bytes ∷ past) deeds once sent apart
-once_turned past (Took order ∷ deeds) once sent apart =
-    once_turned (Took order ∷ past) deeds
-    (once_more (work_of order) (tickets_in past) (tickets_sent (taken_of deeds)) once sent apart)
-    (once_rest (tickets_of (work_of order)) (tickets_sent (taken_of deeds)) sent)
-    (apart_more (work_of order) (tickets_in past) (tickets_sent (taken_of deeds)) sent apart)
-once_turned past (Told report ∷ deeds) once sent apart =
-    once_turned (Told report ∷ past) deeds once sent apart
+once_turned past (Came bytes ∷ actions) once sent apart = once_turned (Came bytes ∷ past) actions once sent apart
+once_turned past (Took order ∷ actions) once sent apart =
+    once_turned (Took order ∷ past) actions
+    (once_more (work_of order) (tickets_in past) (tickets_sent (taken_of actions)) once sent apart)
+    (once_rest (tickets_of (work_of order)) (tickets_sent (taken_of actions)) sent)
+    (apart_more (work_of order) (tickets_in past) (tickets_sent (taken_of actions)) sent apart)
+once_turned past (Told report ∷ actions) once sent apart =
+    once_turned (Told report ∷ past) actions once sent apart
 
 -- an order that is one of work is that
 pub work_is : (order : Order) (work : Ordered) → work_of order ≡ Some work → order ≡ order_of work
@@ -207,20 +207,20 @@ work_is (Stop ticket) work same = absurd (omega (arith, ap work_count same))
 work_is End work same = absurd (omega (arith, ap work_count same))
 
 -- an order of work under the ticket was taken
-record IsTakenUnder (past : List Deed) (ticket : Ticket) : Type 0 where
+record IsTakenUnder (past : List Action) (ticket : Ticket) : Type 0 where
   work : Ordered
   taken : Contains past (Took (order_of work))
   its : work.ticket ≡ ticket
 
-under_more : (deed : Deed) (past : List Deed) (ticket : Ticket) → IsTakenUnder past ticket
-    → IsTakenUnder (deed ∷ past) ticket
-under_more deed past ticket t = record {
+under_more : (action : Action) (past : List Action) (ticket : Ticket) → IsTakenUnder past ticket
+    → IsTakenUnder (action ∷ past) ticket
+under_more action past ticket t = record {
   work = t.work;
-  taken = behind deed past _ t.taken;
+  taken = behind action past _ t.taken;
   its = t.its;
 }
 
-taken_by : (order : Order) (own : Option Ordered) (past : List Deed) (ticket : Ticket)
+taken_by : (order : Order) (own : Option Ordered) (past : List Action) (ticket : Ticket)
     → ((work : Ordered) → own ≡ Some work → order ≡ order_of work)
     → Contains (tickets_of own ++ tickets_in past) ticket
     → (Contains (tickets_in past) ticket → IsTakenUnder past ticket) → IsTakenUnder (Took order ∷ past) ticket
@@ -235,7 +235,7 @@ taken_by order (Some work) past ticket is there before =
       | inr later ↦ under_more (Took order) past ticket (before later)
     ]
 
-taken_under : (past : List Deed) (ticket : Ticket) → Contains (tickets_in past) ticket
+taken_under : (past : List Action) (ticket : Ticket) → Contains (tickets_in past) ticket
     → IsTakenUnder past ticket
 taken_under [] ticket there = absurd (nothing_in ticket there)
 taken_under (Came bytes ∷ past) ticket there =
@@ -254,9 +254,9 @@ pub record IsSentTo (p : Instance) (said : List Exchange) (rank : ℕ) (sent : L
   pub bytes : told_at rank said ≡ flat_map orders.spelled sent
   pub records : (gap : ℤ) (bytes : List ℕ) → Contains sent (Setup gap bytes) → IsRecordOf bytes p
 
--- a worker's deeds, the latest first, took some of these orders, and sent these reports and no
+-- a worker's actions, the latest first, took some of these orders, and sent these reports and no
 -- others
-record IsPast (p : Instance) (sent : List Order) (heard : List Report) (past : List Deed) : Type 0 where
+record IsPast (p : Instance) (sent : List Order) (heard : List Report) (past : List Action) : Type 0 where
   transcript : IsTranscript past
   set_up : IsSetUpFor p past
   taken : (order : Order) → Contains past (Took order) → Contains sent order
@@ -266,23 +266,23 @@ record IsPast (p : Instance) (sent : List Order) (heard : List Report) (past : L
 
 past_is : (p : Instance) (said : List Exchange) (rank : ℕ) (sent : List Order) (heard : List Report)
     → IsWorked said rank → IsSentTo p said rank sent → AreReportsAt said rank heard
-    → (past : List Deed) × IsPast p sent heard past
+    → (past : List Action) × IsPast p sent heard past
 past_is p said rank sent heard w s h =
     let t = workers_are_heard said rank heard w h in
-    let deeds = t.0 in
-    let front = front_orders (taken_of deeds) sent (t.1.now.waiting.bytes ++ t.1.ahead)
-    (taken_carried beginning deeds t.1.now t.1.course) s.carried
-    (sym (append_assoc (flat_map orders.spelled (taken_of deeds)) t.1.now.waiting.bytes t.1.ahead)
+    let actions = t.0 in
+    let front = front_orders (taken_of actions) sent (t.1.now.waiting.bytes ++ t.1.ahead)
+    (taken_carried beginning actions t.1.now t.1.trace) s.carried
+    (sym (append_assoc (flat_map orders.spelled (taken_of actions)) t.1.now.waiting.bytes t.1.ahead)
     ∙ ap (λ (b : List ℕ). b ++ t.1.ahead)
-    (sym (heard_parts beginning deeds t.1.now [] refl refl t.1.course))
+    (sym (heard_parts beginning actions t.1.now [] refl refl t.1.trace))
     ∙ sym t.1.came ∙ s.bytes) in
-    let taken : (order : Order) → Contains (turned [] deeds) (Took order) → Contains sent order =
-    (λ order there. elim (took_turned [] deeds order there) [
+    let taken : (order : Order) → Contains (turned [] actions) (Took order) → Contains sent order =
+    (λ order there. elim (took_turned [] actions order there) [
       | inl none ↦ absurd (nothing_in (Took order) none)
       | inr own ↦ subst (λ (os : List Order). Contains os order) (sym front.1)
-          (Contains-append_left (taken_of deeds) front.0 order own)
+          (Contains-append_left (taken_of actions) front.0 order own)
     ]) in (
-      turned [] deeds,
+      turned [] actions,
       record {
         transcript = t.1.transcript;
         set_up = elim t.1.transcript.set_up [
@@ -298,16 +298,16 @@ past_is p said rank sent heard w s h =
           )
         ];
         taken = taken;
-        once = λ once. once_turned [] deeds tt
-            (once_front (tickets_sent (taken_of deeds)) (tickets_sent front.0)
-            (subst (λ (ts : List Ticket). AreOnce ts) (sent_on (taken_of deeds) front.0)
+        once = λ once. once_turned [] actions tt
+            (once_front (tickets_sent (taken_of actions)) (tickets_sent front.0)
+            (subst (λ (ts : List Ticket). AreOnce ts) (sent_on (taken_of actions) front.0)
             (subst (λ (os : List Order). AreOnce (tickets_sent os)) front.1 once)))
             (λ ticket here there. absurd (nothing_in ticket here));
-        told = λ report there. elim (reports_turned [] deeds report there) [
+        told = λ report there. elim (reports_turned [] actions report there) [
           | inl none ↦ absurd (nothing_in report none)
           | inr own ↦ subst (λ (rs : List Report). Contains rs report) t.1.told own
         ];
-        all = λ report there. told_kept [] deeds report
+        all = λ report there. told_kept [] actions report
             (subst (λ (rs : List Report). Contains rs report) (sym t.1.told) there);
       },
     )
@@ -315,16 +315,16 @@ past_is p said rank sent heard w s h =
 -- ---- all ranks
 
 -- of those below n
-abbrev pasts_of : ℕ → (ℕ → List Deed) → List (List Deed)
+abbrev pasts_of : ℕ → (ℕ → List Action) → List (List Action)
 pasts_of zero past = []
 pasts_of (suc n) past = past n ∷ pasts_of n past
 
-all_pasts : (P : List Deed → Type 0) (n : ℕ) (past : ℕ → List Deed) → ((rank : ℕ) → P (past rank))
+all_pasts : (P : List Action → Type 0) (n : ℕ) (past : ℕ → List Action) → ((rank : ℕ) → P (past rank))
     → All P (pasts_of n past)
 all_pasts P zero past each = All-nil P
 all_pasts P (suc n) past each = All-cons P (past n) (pasts_of n past) (each n) (all_pasts P n past each)
 
-past_there : (n : ℕ) (past : ℕ → List Deed) (rank : ℕ) → rank < n → Contains (pasts_of n past) (past rank)
+past_there : (n : ℕ) (past : ℕ → List Action) (rank : ℕ) → rank < n → Contains (pasts_of n past) (past rank)
 past_there zero past rank below = absurd (omega (arith, below))
 past_there (suc n) past rank below = elim (cases_eq rank n) [
   | inl same ↦ subst (λ (r : ℕ). Contains (past n ∷ pasts_of n past) (past r)) (sym same)
@@ -333,7 +333,7 @@ past_there (suc n) past rank below = elim (cases_eq rank n) [
       (past_there n past rank (omega (arith, below, other)))
 ]
 
-report_below : (n : ℕ) (past : ℕ → List Deed) (report : Report)
+report_below : (n : ℕ) (past : ℕ → List Action) (report : Report)
     → Contains (told_by (pasts_of n past)) report
     → (rank : ℕ) × (rank < n) × Contains (reports_in (past rank)) report
 report_below zero past report there = absurd (nothing_in report there)
@@ -343,7 +343,7 @@ report_below (suc n) past report there =
       | inr later ↦ let t = report_below n past report later in (t.0, omega (arith, t.1), t.2)
     ]
 
-below_report : (n : ℕ) (past : ℕ → List Deed) (report : Report) (rank : ℕ) → rank < n
+below_report : (n : ℕ) (past : ℕ → List Action) (report : Report) (rank : ℕ) → rank < n
     → Contains (reports_in (past rank)) report → Contains (told_by (pasts_of n past)) report
 below_report zero past report rank below there = absurd (omega (arith, below))
 below_report (suc n) past report rank below there = elim (cases_eq rank n) [
@@ -353,7 +353,7 @@ below_report (suc n) past report rank below there = elim (cases_eq rank n) [
       (below_report n past report rank (omega (arith, below, other)) there)
 ]
 
-ticket_below : (n : ℕ) (past : ℕ → List Deed) (ticket : Ticket)
+ticket_below : (n : ℕ) (past : ℕ → List Action) (ticket : Ticket)
     → Contains (tickets_by (pasts_of n past)) ticket
     → (rank : ℕ) × (rank < n) × Contains (tickets_in (past rank)) ticket
 ticket_below zero past ticket there = absurd (nothing_in ticket there)
@@ -374,7 +374,7 @@ once_both (x ∷ xs) ys one two apart = (
   once_both xs ys one.1 two (λ t here there. apart t (behind x xs t here) there),
 )
 
-once_all : (n : ℕ) (past : ℕ → List Deed) → ((rank : ℕ) → AreOnce (tickets_in (past rank)))
+once_all : (n : ℕ) (past : ℕ → List Action) → ((rank : ℕ) → AreOnce (tickets_in (past rank)))
     → ((q r : ℕ) (ticket : Ticket) → Contains (tickets_in (past q)) ticket
     → Contains (tickets_in (past r)) ticket → q ≡ r)
     → AreOnce (tickets_by (pasts_of n past))
@@ -396,10 +396,10 @@ module _ (p : Instance) (said : List Exchange) (n : ℕ) (sent : ℕ → List Or
     (whose : (report : Report) → Contains all report
     → (rank : ℕ) × (rank < n) × Contains (heard rank) report)
     (among : (rank : ℕ) (report : Report) → Contains (heard rank) report → Contains all report) where
-  one : (rank : ℕ) → (past : List Deed) × IsPast p (sent rank) (heard rank) past
+  one : (rank : ℕ) → (past : List Action) × IsPast p (sent rank) (heard rank) past
   one rank = past_is p said rank (sent rank) (heard rank) (worked rank) (to rank) (from rank)
 
-  abbrev past : ℕ → List Deed
+  abbrev past : ℕ → List Action
   past rank = (one rank).0
 
   is : (rank : ℕ) → IsPast p (sent rank) (heard rank) (past rank)

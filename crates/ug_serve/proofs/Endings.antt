@@ -9,9 +9,9 @@ use Rattle.ug_frames.specs.declared.order.Order.TheVariants as orders
 use Rattle.ug_frames.specs.declared.report.Report.{Report}
 use Rattle.ug_frames.specs.declared.report.Report.TheVariants.{Ready, Solution, Hand, State, Done, Ended}
 use Rattle.ug_frames.specs.ReportFrames as reports
-use Rattle.ug_serve.specs.Courses.{HasCome, IsCourse, ServerState, beginning}
+use Rattle.ug_serve.specs.Traces.{Reaches, IsTrace, ServerState, beginning}
 use Rattle.ug_serve.specs.CrewLaws.{reports_of}
-use Rattle.ug_serve.specs.Deeds.{Blank, Busy, Came, Deed, Ending, Free, IsTaken, IsTold, Over, SetUp, Stage, Told, Took}
+use Rattle.ug_serve.specs.Actions.{Blank, Busy, Came, Action, Ending, Free, IsTaken, IsTold, Over, SetUp, Stage, Told, Took}
 use Rattle.ug_serve.specs.Endings.{ServicesEndInOneWay}
 use Rattle.ug_serve.specs.Queues.{told_in}
 use Rattle.ug_serve.specs.Serving.{IsOpen}
@@ -126,55 +126,55 @@ open_on Over shows over = shows
 
 -- ---- courses
 
-over_stays : (a : ServerState) (deeds : List Deed) (b : ServerState) → IsCourse a deeds b → is_over a.stage ≡ true
+over_stays : (a : ServerState) (actions : List Action) (b : ServerState) → IsTrace a actions b → is_over a.stage ≡ true
     → is_over b.stage ≡ true
 over_stays a [] b same over = ap (λ (s : ServerState). is_over s.stage) same ∙ over
-over_stays a (Came bytes ∷ deeds) b (mid, does, more) over =
-    over_stays mid deeds b more (ap (λ (s : ServerState). is_over s.stage) does ∙ over)
-over_stays a (Took order ∷ deeds) b (mid, does, more) over = absurd (none_taken a.stage order mid.stage does.taken over)
-over_stays a (Told report ∷ deeds) b (mid, does, more) over = absurd (none_told a.stage report mid.stage does.due over)
+over_stays a (Came bytes ∷ actions) b (mid, does, more) over =
+    over_stays mid actions b more (ap (λ (s : ServerState). is_over s.stage) does ∙ over)
+over_stays a (Took order ∷ actions) b (mid, does, more) over = absurd (none_taken a.stage order mid.stage does.taken over)
+over_stays a (Told report ∷ actions) b (mid, does, more) over = absurd (none_told a.stage report mid.stage does.due over)
 
 -- if Ended was sent it is over
-ended_over : (a : ServerState) (deeds : List Deed) (b : ServerState) → IsCourse a deeds b
-    → Contains (reports_of deeds) Ended → is_over b.stage ≡ true
+ended_over : (a : ServerState) (actions : List Action) (b : ServerState) → IsTrace a actions b
+    → Contains (reports_of actions) Ended → is_over b.stage ≡ true
 ended_over a [] b same there = absurd (none_there Ended there)
-ended_over a (Came bytes ∷ deeds) b (mid, does, more) there = ended_over mid deeds b more there
-ended_over a (Took order ∷ deeds) b (mid, does, more) there = ended_over mid deeds b more there
-ended_over a (Told report ∷ deeds) b (mid, does, more) there =
-    elim (first_or report (reports_of deeds) Ended there) [
-      | inl same ↦ over_stays mid deeds b more
+ended_over a (Came bytes ∷ actions) b (mid, does, more) there = ended_over mid actions b more there
+ended_over a (Took order ∷ actions) b (mid, does, more) there = ended_over mid actions b more there
+ended_over a (Told report ∷ actions) b (mid, does, more) there =
+    elim (first_or report (reports_of actions) Ended there) [
+      | inl same ↦ over_stays mid actions b more
           (told_ended a.stage mid.stage (subst (λ (r : Report). IsTold a.stage r mid.stage) same does.due))
-      | inr later ↦ ended_over mid deeds b more later
+      | inr later ↦ ended_over mid actions b more later
     ]
 
 -- and there alone
-over_ended : (a : ServerState) (deeds : List Deed) (b : ServerState) → IsCourse a deeds b → is_over a.stage ≡ false
-    → is_over b.stage ≡ true → Contains (reports_of deeds) Ended
+over_ended : (a : ServerState) (actions : List Action) (b : ServerState) → IsTrace a actions b → is_over a.stage ≡ false
+    → is_over b.stage ≡ true → Contains (reports_of actions) Ended
 over_ended a [] b same not over = absurd (false≢true (sym not ∙ sym (ap (λ (s : ServerState). is_over s.stage) same) ∙ over))
-over_ended a (Came bytes ∷ deeds) b (mid, does, more) not over =
-    over_ended mid deeds b more (ap (λ (s : ServerState). is_over s.stage) does ∙ not) over
-over_ended a (Took order ∷ deeds) b (mid, does, more) not over = elim (cases_Bool (is_over mid.stage)) [
+over_ended a (Came bytes ∷ actions) b (mid, does, more) not over =
+    over_ended mid actions b more (ap (λ (s : ServerState). is_over s.stage) does ∙ not) over
+over_ended a (Took order ∷ actions) b (mid, does, more) not over = elim (cases_Bool (is_over mid.stage)) [
   | inl now ↦ absurd (taken_over a.stage order mid.stage does.taken now)
-  | inr on ↦ over_ended mid deeds b more on over
+  | inr on ↦ over_ended mid actions b more on over
 ]
-over_ended a (Told report ∷ deeds) b (mid, does, more) not over = elim (cases_Bool (is_over mid.stage)) [
-  | inl now ↦ subst (λ (r : Report). Contains (report ∷ reports_of deeds) r)
-      (told_over a.stage report mid.stage does.due now) (in_front report (reports_of deeds))
-  | inr on ↦ behind report (reports_of deeds) Ended (over_ended mid deeds b more on over)
+over_ended a (Told report ∷ actions) b (mid, does, more) not over = elim (cases_Bool (is_over mid.stage)) [
+  | inl now ↦ subst (λ (r : Report). Contains (report ∷ reports_of actions) r)
+      (told_over a.stage report mid.stage does.due now) (in_front report (reports_of actions))
+  | inr on ↦ behind report (reports_of actions) Ended (over_ended mid actions b more on over)
 ]
 
 -- the same was said, so the same reports were sent
-same_reports : (x y : ServerState) (one : HasCome x) (two : HasCome y) → x.said ≡ y.said
-    → reports_of one.deeds ≡ reports_of two.deeds
+same_reports : (x y : ServerState) (one : Reaches x) (two : Reaches y) → x.said ≡ y.said
+    → reports_of one.actions ≡ reports_of two.actions
 same_reports x y one two same =
     let none = one_way.short [] (inl (omega arith)) in
-    let both = one_way.one (reports_of one.deeds) (reports_of two.deeds) [] []
-    (all_carried beginning one.deeds x one.course) (all_carried beginning two.deeds y two.course) none none
-    (append-nil (flat_map reports.spelled (reports_of one.deeds))
-    ∙ sym (shown_told beginning one.deeds x one.course)
+    let both = one_way.one (reports_of one.actions) (reports_of two.actions) [] []
+    (all_carried beginning one.actions x one.trace) (all_carried beginning two.actions y two.trace) none none
+    (append-nil (flat_map reports.spelled (reports_of one.actions))
+    ∙ sym (shown_told beginning one.actions x one.trace)
     ∙ ap told_in same
-    ∙ shown_told beginning two.deeds y two.course
-    ∙ sym (append-nil (flat_map reports.spelled (reports_of two.deeds)))) in
+    ∙ shown_told beginning two.actions y two.trace
+    ∙ sym (append-nil (flat_map reports.spelled (reports_of two.actions)))) in
     both.0
 
 said_so : (a : Option (List Said)) (said now : List Said) → a ≡ Some said → IfSome a (λ s. s ≡ now) → said ≡ now
@@ -194,9 +194,9 @@ services_end_in_one_way = record {
   ];
   ended_not_bad = λ seen said at is ended bad.
       let same = sym (said_so seen.said said ended.now.said is ended.on.said) ∙ said_so seen.said said bad.now.said is bad.on.said in
-      let told = over_ended beginning ended.on.come.deeds ended.now ended.on.come.course refl (ap is_over ended.over) in
+      let told = over_ended beginning ended.on.come.actions ended.now ended.on.come.trace refl (ap is_over ended.over) in
       open_on bad.now.stage bad.running
-      (ended_over beginning bad.on.come.deeds bad.now bad.on.come.course
+      (ended_over beginning bad.on.come.actions bad.now bad.on.come.trace
       (subst (λ (l : List Report). Contains l Ended)
       (same_reports ended.now bad.now ended.on.come bad.on.come same) told));
 }

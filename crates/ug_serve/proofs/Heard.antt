@@ -16,15 +16,15 @@ use Rattle.ug_frames.proofs.OrderReaders.{body_of as order_body, order_whole, or
 use Rattle.ug_frames.proofs.ReportReaders.{body_of, report_whole, report_small}
 use Rattle.ug_stream.specs.Laws.{IsReadInOneWay}
 use Rattle.ug_stream.proofs.Reading.{in_one_way}
-use Rattle.ug_serve.specs.Courses.{HasCome, IsCourse, ServerState, beginning}
+use Rattle.ug_serve.specs.Traces.{Reaches, IsTrace, ServerState, beginning}
 use Rattle.ug_serve.specs.CrewLaws.{WorkersAreHeard, reports_of}
-use Rattle.ug_serve.specs.Deeds.{Deed, Came, Took, Told}
+use Rattle.ug_serve.specs.Actions.{Action, Came, Took, Told}
 use Rattle.ug_serve.specs.Queues.{heard_in, told_in}
 use Rattle.ug_serve.specs.Serving.{IsPartTold}
-use Rattle.ug_serve.specs.Staffs.{heard_at}
+use Rattle.ug_serve.specs.SimWorkers.{heard_at}
 use Rattle.ug_serve.proofs.Queues.{heard_more, heard_still, told_more, told_still}
-use Rattle.ug_serve.proofs.Transcribed.{courses_are_transcripts}
-use Rattle.ug_serve.proofs.Wires.{course_more}
+use Rattle.ug_serve.proofs.Transcribed.{traces_are_transcripts}
+use Rattle.ug_serve.proofs.Wires.{trace_more}
 
 -- ---- reading frames
 
@@ -71,53 +71,53 @@ front_orders os ns r carried also same =
 
 -- ---- what a course shows
 
-pub shown_told : (a : ServerState) (deeds : List Deed) (b : ServerState) → IsCourse a deeds b
-    → told_in b.said ≡ told_in a.said ++ flat_map reports.spelled (reports_of deeds)
+pub shown_told : (a : ServerState) (actions : List Action) (b : ServerState) → IsTrace a actions b
+    → told_in b.said ≡ told_in a.said ++ flat_map reports.spelled (reports_of actions)
 shown_told a [] b same =
     ap (λ (s : ServerState). told_in s.said) same ∙ sym (append-nil (told_in a.said))
-shown_told a (Came bytes ∷ deeds) b (mid, does, more) =
-    shown_told mid deeds b more
-    ∙ ap (λ (t : List ℕ). t ++ flat_map reports.spelled (reports_of deeds))
+shown_told a (Came bytes ∷ actions) b (mid, does, more) =
+    shown_told mid actions b more
+    ∙ ap (λ (t : List ℕ). t ++ flat_map reports.spelled (reports_of actions))
     (ap (λ (s : ServerState). told_in s.said) does ∙ told_still a.said bytes)
-shown_told a (Took order ∷ deeds) b (mid, does, more) =
-    shown_told mid deeds b more
-    ∙ ap (λ (t : List ℕ). t ++ flat_map reports.spelled (reports_of deeds))
+shown_told a (Took order ∷ actions) b (mid, does, more) =
+    shown_told mid actions b more
+    ∙ ap (λ (t : List ℕ). t ++ flat_map reports.spelled (reports_of actions))
     (ap (λ (s : List Said). told_in s) does.said)
-shown_told a (Told report ∷ deeds) b (mid, does, more) =
-    shown_told mid deeds b more
-    ∙ ap (λ (t : List ℕ). t ++ flat_map reports.spelled (reports_of deeds))
+shown_told a (Told report ∷ actions) b (mid, does, more) =
+    shown_told mid actions b more
+    ∙ ap (λ (t : List ℕ). t ++ flat_map reports.spelled (reports_of actions))
     (ap (λ (s : List Said). told_in s) does.said ∙ told_more a.said (reports.spelled report))
     ∙ append_assoc (told_in a.said) (reports.spelled report)
-    (flat_map reports.spelled (reports_of deeds))
+    (flat_map reports.spelled (reports_of actions))
 
-pub all_carried : (a : ServerState) (deeds : List Deed) (b : ServerState) → IsCourse a deeds b
-    → All reports.IsCarried (reports_of deeds)
+pub all_carried : (a : ServerState) (actions : List Action) (b : ServerState) → IsTrace a actions b
+    → All reports.IsCarried (reports_of actions)
 all_carried a [] b same = All-nil reports.IsCarried
-all_carried a (Came bytes ∷ deeds) b (mid, does, more) = all_carried mid deeds b more
-all_carried a (Took order ∷ deeds) b (mid, does, more) = all_carried mid deeds b more
-all_carried a (Told report ∷ deeds) b (mid, does, more) =
-    All-cons reports.IsCarried report (reports_of deeds) does.carried
-    (all_carried mid deeds b more)
+all_carried a (Came bytes ∷ actions) b (mid, does, more) = all_carried mid actions b more
+all_carried a (Took order ∷ actions) b (mid, does, more) = all_carried mid actions b more
+all_carried a (Told report ∷ actions) b (mid, does, more) =
+    All-cons reports.IsCarried report (reports_of actions) does.carried
+    (all_carried mid actions b more)
 
-shown_heard : (a : ServerState) (deeds : List Deed) (b : ServerState) → IsCourse a deeds b
+shown_heard : (a : ServerState) (actions : List Action) (b : ServerState) → IsTrace a actions b
     → (more : List ℕ) × (heard_in b.said ≡ heard_in a.said ++ more)
 shown_heard a [] b same =
     ([], ap (λ (s : ServerState). heard_in s.said) same ∙ sym (append-nil (heard_in a.said)))
-shown_heard a (Came bytes ∷ deeds) b (mid, does, more) =
-    let rest = shown_heard mid deeds b more in (
+shown_heard a (Came bytes ∷ actions) b (mid, does, more) =
+    let rest = shown_heard mid actions b more in (
       bytes ++ rest.0,
       rest.1
           ∙ ap (λ (t : List ℕ). t ++ rest.0)
           (ap (λ (s : ServerState). heard_in s.said) does ∙ heard_more a.said bytes)
           ∙ append_assoc (heard_in a.said) bytes rest.0,
     )
-shown_heard a (Took order ∷ deeds) b (mid, does, more) =
-    let rest = shown_heard mid deeds b more in (
+shown_heard a (Took order ∷ actions) b (mid, does, more) =
+    let rest = shown_heard mid actions b more in (
       rest.0,
       rest.1 ∙ ap (λ (t : List ℕ). t ++ rest.0) (ap (λ (s : List Said). heard_in s) does.said),
     )
-shown_heard a (Told report ∷ deeds) b (mid, does, more) =
-    let rest = shown_heard mid deeds b more in (
+shown_heard a (Told report ∷ actions) b (mid, does, more) =
+    let rest = shown_heard mid actions b more in (
       rest.0,
       rest.1
           ∙ ap (λ (t : List ℕ). t ++ rest.0)
@@ -127,12 +127,12 @@ shown_heard a (Told report ∷ deeds) b (mid, does, more) =
 
 -- ---- a prefix of a course
 
--- by these deeds just these reports were sent, and no more was received than by all
+-- by these actions just these reports were sent, and no more was received than by all
 record IsCut (a : ServerState) (taken : List Report) (b : ServerState) : Type 0 where
-  deeds : List Deed
+  actions : List Action
   now : ServerState
-  course : IsCourse a deeds now
-  told : reports_of deeds ≡ taken
+  trace : IsTrace a actions now
+  told : reports_of actions ≡ taken
   ahead : List ℕ
   came : heard_in b.said ≡ heard_in now.said ++ ahead
 
@@ -144,40 +144,40 @@ abbrev behind_first : List Report → List Report
 behind_first [] = []
 behind_first (r ∷ rs) = rs
 
-cut : (a : ServerState) (deeds : List Deed) (b : ServerState) (taken more : List Report)
-    → IsCourse a deeds b → reports_of deeds ≡ taken ++ more → IsCut a taken b
-cut a deeds b [] more course its =
-    let rest = shown_heard a deeds b course in
-    record { deeds = []; now = a; course = refl; told = refl; ahead = rest.0; came = rest.1 }
-cut a [] b (r ∷ rs) more course its =
+cut : (a : ServerState) (actions : List Action) (b : ServerState) (taken more : List Report)
+    → IsTrace a actions b → reports_of actions ≡ taken ++ more → IsCut a taken b
+cut a actions b [] more trace its =
+    let rest = shown_heard a actions b trace in
+    record { actions = []; now = a; trace = refl; told = refl; ahead = rest.0; came = rest.1 }
+cut a [] b (r ∷ rs) more trace its =
     absurd (omega (arith, ap (λ (l : List Report). length l) its))
-cut a (Came bytes ∷ deeds) b (r ∷ rs) more (mid, does, rest) its =
-    let c = cut mid deeds b (r ∷ rs) more rest its in
+cut a (Came bytes ∷ actions) b (r ∷ rs) more (mid, does, rest) its =
+    let c = cut mid actions b (r ∷ rs) more rest its in
     record {
-      deeds = Came bytes ∷ c.deeds;
+      actions = Came bytes ∷ c.actions;
       now = c.now;
-      course = (mid, does, c.course);
+      trace = (mid, does, c.trace);
       told = c.told;
       ahead = c.ahead;
       came = c.came;
     }
-cut a (Took order ∷ deeds) b (r ∷ rs) more (mid, does, rest) its =
-    let c = cut mid deeds b (r ∷ rs) more rest its in
+cut a (Took order ∷ actions) b (r ∷ rs) more (mid, does, rest) its =
+    let c = cut mid actions b (r ∷ rs) more rest its in
     record {
-      deeds = Took order ∷ c.deeds;
+      actions = Took order ∷ c.actions;
       now = c.now;
-      course = (mid, does, c.course);
+      trace = (mid, does, c.trace);
       told = c.told;
       ahead = c.ahead;
       came = c.came;
     }
-cut a (Told report ∷ deeds) b (r ∷ rs) more (mid, does, rest) its =
+cut a (Told report ∷ actions) b (r ∷ rs) more (mid, does, rest) its =
     let first : report ≡ r = ap (first_or r) its in
-    let c = cut mid deeds b rs more rest (ap behind_first its) in
+    let c = cut mid actions b rs more rest (ap behind_first its) in
     record {
-      deeds = Told report ∷ c.deeds;
+      actions = Told report ∷ c.actions;
       now = c.now;
-      course = (mid, does, c.course);
+      trace = (mid, does, c.trace);
       told = (λ i. first i ∷ c.told i);
       ahead = c.ahead;
       came = c.came;
@@ -185,23 +185,23 @@ cut a (Told report ∷ deeds) b (r ∷ rs) more (mid, does, rest) its =
 
 -- ---- what a link shows
 
--- deeds by which all that it shows was sent, and maybe the rest of a report
+-- actions by which all that it shows was sent, and maybe the rest of a report
 record IsWhole (shown : List Said) : Type 0 where
-  deeds : List Deed
+  actions : List Action
   now : ServerState
-  course : IsCourse beginning deeds now
+  trace : IsTrace beginning actions now
   rest : List ℕ
-  told : flat_map reports.spelled (reports_of deeds) ≡ told_in shown ++ rest
+  told : flat_map reports.spelled (reports_of actions) ≡ told_in shown ++ rest
   came : heard_in now.said ≡ heard_in shown
 
-whole : (now : ServerState) (shown : List Said) → HasCome now → (shown ≡ now.said) ⊎ IsPartTold now shown
+whole : (now : ServerState) (shown : List Said) → Reaches now → (shown ≡ now.said) ⊎ IsPartTold now shown
     → IsWhole shown
 whole now shown come (inl same) = record {
-  deeds = come.deeds;
+  actions = come.actions;
   now = now;
-  course = come.course;
+  trace = come.trace;
   rest = [];
-  told = sym (shown_told beginning come.deeds now come.course)
+  told = sym (shown_told beginning come.actions now come.trace)
       ∙ ap (λ (s : List Said). told_in s) (sym same) ∙ sym (append-nil (told_in shown));
   came = ap (λ (s : List Said). heard_in s) (sym same);
 }
@@ -211,16 +211,16 @@ whole now shown come (inr part) =
       waiting = now.waiting;
       stage = part.next;
     } in
-    let deeds = come.deeds ++ Told part.report ∷ [] in
-    let course : IsCourse beginning deeds end =
-    course_more beginning come.deeds now end (Told part.report) come.course
+    let actions = come.actions ++ Told part.report ∷ [] in
+    let trace : IsTrace beginning actions end =
+    trace_more beginning come.actions now end (Told part.report) come.trace
     (record { carried = part.carried; due = part.due; said = refl; waiting = refl }) in
     record {
-      deeds = deeds;
+      actions = actions;
       now = end;
-      course = course;
+      trace = trace;
       rest = part.rest;
-      told = sym (shown_told beginning deeds end course)
+      told = sym (shown_told beginning actions end trace)
           ∙ told_more now.said (reports.spelled part.report)
           ∙ ap (λ (b : List ℕ). told_in now.said ++ b) part.parts
           ∙ sym (append_assoc (told_in now.said) part.front part.rest)
@@ -233,18 +233,18 @@ whole now shown come (inr part) =
 pub workers_are_heard : WorkersAreHeard
 workers_are_heard said rank taken w h =
     let all = whole w.now w.shown w.come w.shows in
-    let front = front_of reports.IsCarried reports.spelled one_way one_frame taken (reports_of all.deeds) (h.rest ++ (w.behind ++ all.rest)) h.carried
-    (all_carried beginning all.deeds all.now all.course)
+    let front = front_of reports.IsCarried reports.spelled one_way one_frame taken (reports_of all.actions) (h.rest ++ (w.behind ++ all.rest)) h.carried
+    (all_carried beginning all.actions all.now all.trace)
     (sym (append_assoc (flat_map reports.spelled taken) h.rest (w.behind ++ all.rest))
     ∙ ap (λ (b : List ℕ). b ++ (w.behind ++ all.rest)) (sym h.parts)
     ∙ sym (append_assoc (heard_at rank said) w.behind all.rest)
     ∙ ap (λ (b : List ℕ). b ++ all.rest) (sym w.heard) ∙ sym all.told) in
-    let c = cut beginning all.deeds all.now taken front.0 all.course front.1 in (
-      c.deeds,
+    let c = cut beginning all.actions all.now taken front.0 all.trace front.1 in (
+      c.actions,
       record {
         now = c.now;
-        course = c.course;
-        transcript = courses_are_transcripts c.deeds c.now c.course;
+        trace = c.trace;
+        transcript = traces_are_transcripts c.actions c.now c.trace;
         told = c.told;
         ahead = c.ahead ++ w.ahead;
         came = w.told ∙ ap (λ (b : List ℕ). b ++ w.ahead) (sym all.came ∙ c.came)

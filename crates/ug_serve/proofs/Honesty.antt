@@ -16,7 +16,7 @@ use Rattle.ug_frames.specs.declared.report.Report.TheVariants.{Ready, Solution, 
 use Rattle.ug_frames.specs.declared.report.Report.TheVariants.{Ended}
 use Rattle.ug_frames.specs.Reports.{ticket_of}
 use Rattle.ug_frames.specs.Honest.{IsInHands}
-use Rattle.ug_serve.specs.Deeds.{Basis, Deed, Came, Took, Told}
+use Rattle.ug_serve.specs.Actions.{Basis, Action, Came, Took, Told}
 use Rattle.ug_serve.specs.Transcripts.{AreSaid, IsBoxTold, IsEndOfTask, IsSaid, IsTranscript, IsUnder, Ordered, box_of, hands_among, last_work, later_of, order_of, reports_in, since_order, since_work, told_since, work_of}
 use Rattle.ug_serve.specs.Laws.{AreOnce, IsSetUpFor, WorkersAreHonest, tickets_by, tickets_in, tickets_of, told_by}
 use Rattle.ug_serve.proofs.Told.{behind, came_is_no_order, came_is_no_report, first_or, in_front, in_more, same_order, same_report, told_is_no_order, took_is_no_report}
@@ -72,7 +72,7 @@ once_apart (x ∷ xs) ys t once here there = elim (first_or x xs t here) [
 -- ---- orders of work
 
 -- an order of work has its ticket
-ticket_taken : (past : List Deed) (work : Ordered) → Contains past (Took (order_of work))
+ticket_taken : (past : List Action) (work : Ordered) → Contains past (Took (order_of work))
     → Contains (tickets_in past) work.ticket
 ticket_taken [] work there = absurd (nothing_in _ there)
 ticket_taken (Came bytes ∷ past) work there = elim (first_or (Came bytes) past _ there) [
@@ -91,7 +91,7 @@ ticket_taken (Told report ∷ past) work there = elim (first_or (Told report) pa
 ]
 
 -- and so has the last one
-last_by : (own : Option Ordered) (past : List Deed) (work : Ordered)
+last_by : (own : Option Ordered) (past : List Action) (work : Ordered)
     → later_of own (last_work past) ≡ Some work
     → (last_work past ≡ Some work → Contains (tickets_in past) work.ticket)
     → Contains (tickets_of own ++ tickets_in past) work.ticket
@@ -100,7 +100,7 @@ last_by (Some own) past work last before =
     subst (λ (w : Ordered). Contains (own.ticket ∷ tickets_in past) w.ticket) (same_work own work last)
     (in_front own.ticket (tickets_in past))
 
-last_ticket : (past : List Deed) (work : Ordered) → last_work past ≡ Some work
+last_ticket : (past : List Action) (work : Ordered) → last_work past ≡ Some work
     → Contains (tickets_in past) work.ticket
 last_ticket [] work last = absurd (omega (arith, ap work_count last))
 last_ticket (Came bytes ∷ past) work last = last_ticket past work last
@@ -108,7 +108,7 @@ last_ticket (Took order ∷ past) work last = last_by (work_of order) past work 
 last_ticket (Told report ∷ past) work last = last_ticket past work last
 
 -- the last order of work is the only one under its ticket
-one_by : (own : Option Ordered) (past : List Deed) (work other : Ordered)
+one_by : (own : Option Ordered) (past : List Action) (work other : Ordered)
     → AreOnce (tickets_of own ++ tickets_in past) → later_of own (last_work past) ≡ Some work
     → Contains past (Took (order_of other)) → other.ticket ≡ work.ticket
     → (AreOnce (tickets_in past) → last_work past ≡ Some work → other ≡ work) → other ≡ work
@@ -117,7 +117,7 @@ one_by (Some own) past work other once last there same before =
     absurd (once.0 (subst (λ (t : Ticket). Contains (tickets_in past) t)
     (same ∙ sym (ap (λ (w : Ordered). w.ticket) (same_work own work last))) (ticket_taken past other there)))
 
-one_order : (past : List Deed) (work other : Ordered) → AreOnce (tickets_in past)
+one_order : (past : List Action) (work other : Ordered) → AreOnce (tickets_in past)
     → last_work past ≡ Some work → Contains past (Took (order_of other)) → other.ticket ≡ work.ticket
     → other ≡ work
 one_order [] work other once last there same = absurd (nothing_in _ there)
@@ -145,7 +145,7 @@ none_is_some : (ticket : Ticket) → None ≡ Some ticket → ⊥
 none_is_some ticket same = omega (arith, ap ticket_count same)
 
 -- a report that names a ticket is under it
-under_named : (basis : Basis) (past : List Deed) (report : Report) (ticket : Ticket)
+under_named : (basis : Basis) (past : List Action) (report : Report) (ticket : Ticket)
     → ticket_of report ≡ Some ticket → IsSaid basis past report → IsUnder basis past ticket
 under_named basis past Ready ticket named said = absurd (none_is_some ticket named)
 under_named basis past (Solution own x) ticket named said =
@@ -159,7 +159,7 @@ under_named basis past (Done own cutoff count ending) ticket named said =
 under_named basis past Ended ticket named said = absurd (none_is_some ticket named)
 
 -- so an order of work had the ticket
-pub told_ticket : (basis : Basis) (past : List Deed) (report : Report) (ticket : Ticket)
+pub told_ticket : (basis : Basis) (past : List Action) (report : Report) (ticket : Ticket)
     → ticket_of report ≡ Some ticket → AreSaid basis past → Contains past (Told report)
     → Contains (tickets_in past) ticket
 told_ticket basis [] report ticket named said there = absurd (nothing_in _ there)
@@ -184,7 +184,7 @@ told_ticket basis (Told own ∷ past) report ticket named said there =
     ]
 
 -- what was sent is among the reports, and vice versa
-pub told_there : (past : List Deed) (report : Report) → Contains (reports_in past) report
+pub told_there : (past : List Action) (report : Report) → Contains (reports_in past) report
     → Contains past (Told report)
 told_there [] report there = absurd (nothing_in _ there)
 told_there (Came bytes ∷ past) report there = behind _ past _ (told_there past report there)
@@ -194,14 +194,14 @@ told_there (Told own ∷ past) report there = elim (first_or own (reports_in pas
   | inr later ↦ behind _ past _ (told_there past report later)
 ]
 
-since_by : (own : Option Ordered) (order : Order) (past : List Deed) (report : Report)
+since_by : (own : Option Ordered) (order : Order) (past : List Action) (report : Report)
     → Contains (reports_in (since_order own order (since_work past))) report
     → (Contains (told_since past) report → Contains (reports_in past) report)
     → Contains (reports_in past) report
 since_by None order past report there before = before there
 since_by (Some own) order past report there before = absurd (nothing_in _ there)
 
-since_among : (past : List Deed) (report : Report) → Contains (told_since past) report
+since_among : (past : List Action) (report : Report) → Contains (told_since past) report
     → Contains (reports_in past) report
 since_among [] report there = there
 since_among (Came bytes ∷ past) report there = since_among past report there
@@ -240,7 +240,7 @@ hands_grow Ended reports = omega arith
 
 -- a hand has a lower number than how many there are since the last order of work, if it has its
 -- ticket
-below_by : (own : Option Ordered) (order : Order) (past : List Deed) (work : Ordered) (ticket : Ticket)
+below_by : (own : Option Ordered) (order : Order) (past : List Action) (work : Ordered) (ticket : Ticket)
     (number : ℕ) → AreOnce (tickets_of own ++ tickets_in past) → later_of own (last_work past) ≡ Some work
     → work.ticket ≡ ticket → Contains (tickets_in past) ticket
     → (AreOnce (tickets_in past) → last_work past ≡ Some work → number < hands_among (told_since past))
@@ -250,7 +250,7 @@ below_by (Some own) order past work ticket number once last same there before =
     absurd (once.0 (subst (Contains (tickets_in past))
     (sym (ap (λ (w : Ordered). w.ticket) (same_work own work last) ∙ same)) there))
 
-number_below : (basis : Basis) (past : List Deed) (work : Ordered) (ticket : Ticket) (number : ℕ)
+number_below : (basis : Basis) (past : List Action) (work : Ordered) (ticket : Ticket) (number : ℕ)
     (changes : List Change) → AreSaid basis past → AreOnce (tickets_in past)
     → last_work past ≡ Some work → work.ticket ≡ ticket
     → Contains past (Told (Hand ticket number changes)) → number < hands_among (told_since past)
@@ -286,7 +286,7 @@ number_below basis (Told own ∷ past) work ticket number changes said once last
     grown below more = omega (arith, below, more)
 
 -- of two hands with one number the later was sent where the earlier one counted
-no_earlier : (basis : Basis) (past : List Deed) (ticket : Ticket) (number : ℕ) (changes other : List Change)
+no_earlier : (basis : Basis) (past : List Action) (ticket : Ticket) (number : ℕ) (changes other : List Change)
     → AreSaid basis past → AreOnce (tickets_in past) → IsBoxTold basis past ticket number changes
     → Contains past (Told (Hand ticket number other)) → ⊥
 no_earlier basis past ticket number changes other said once box there =
@@ -294,7 +294,7 @@ no_earlier basis past ticket number changes other said once box there =
     there in
     omega (arith, below, box.numbered)
 
-one_hand : (basis : Basis) (past : List Deed) (ticket : Ticket) (number : ℕ) (changes other : List Change)
+one_hand : (basis : Basis) (past : List Action) (ticket : Ticket) (number : ℕ) (changes other : List Change)
     → AreSaid basis past → AreOnce (tickets_in past) → Contains past (Told (Hand ticket number changes))
     → Contains past (Told (Hand ticket number other)) → changes ≡ other
 one_hand basis [] ticket number changes other said once one two = absurd (nothing_in _ one)
@@ -332,7 +332,7 @@ one_hand basis (Told own ∷ past) ticket number changes other said once one two
 -- ---- ends of tasks
 
 -- under the order of work before it
-end_true : (basis : Basis) (past : List Deed) (ticket : Ticket) (cutoff : Option ℤ) (count : ℕ)
+end_true : (basis : Basis) (past : List Action) (ticket : Ticket) (cutoff : Option ℤ) (count : ℕ)
     (other : Ordered) (x : List ℤ) → AreOnce (tickets_in past)
     → IsEndOfTask basis past ticket cutoff count → Contains past (Took (order_of other))
     → other.ticket ≡ ticket → IsInside (box_of basis other) x → IsGood basis.problem cutoff x
@@ -342,7 +342,7 @@ end_true basis past ticket cutoff count other x once ends there its inside good 
     in_among (root_of basis.problem) (told_since past) (reports_in past) ticket count x (since_among past)
     (ends.searched x (subst (λ (work : Ordered). IsInside (box_of basis work) x) same inside) good)
 
-done_true : (basis : Basis) (past : List Deed) (ticket : Ticket) (cutoff : Option ℤ) (count : ℕ)
+done_true : (basis : Basis) (past : List Action) (ticket : Ticket) (cutoff : Option ℤ) (count : ℕ)
     (ending : Ending) (other : Ordered) (x : List ℤ) → AreSaid basis past → AreOnce (tickets_in past)
     → Contains past (Told (Done ticket cutoff count ending)) → Contains past (Took (order_of other))
     → other.ticket ≡ ticket → IsInside (box_of basis other) x → IsGood basis.problem cutoff x
@@ -385,13 +385,13 @@ done_true basis (Told own ∷ past) ticket cutoff count ending other x said once
 -- ---- many workers
 
 -- what a worker sent that was set up with the problem
-said_of : (p : Instance) (past : List Deed) (report : Report) → IsTranscript past → IsSetUpFor p past
+said_of : (p : Instance) (past : List Action) (report : Report) → IsTranscript past → IsSetUpFor p past
     → Contains (reports_in past) report
     → (gap : ℤ) × AreSaid (record { problem = p; gap = gap }) past
 said_of p past report transcript (inl silent) there = absurd (nothing_in _ (subst (λ (rs : List Report). Contains rs report) silent there))
 said_of p past report transcript (inr (gap, set)) there = (gap, transcript.said _ set)
 
-ticket_told : (p : Instance) (past : List Deed) (report : Report) (ticket : Ticket)
+ticket_told : (p : Instance) (past : List Action) (report : Report) (ticket : Ticket)
     → ticket_of report ≡ Some ticket → IsTranscript past → IsSetUpFor p past
     → Contains (reports_in past) report → Contains (tickets_in past) ticket
 ticket_told p past report ticket named transcript set there =
@@ -399,7 +399,7 @@ ticket_told p past report ticket named transcript set there =
     told_ticket (record { problem = p; gap = said.0 }) past report ticket named said.1
     (told_there past report there)
 
-ticket_by : (p : Instance) (pasts : List (List Deed)) (report : Report) (ticket : Ticket)
+ticket_by : (p : Instance) (pasts : List (List Action)) (report : Report) (ticket : Ticket)
     → ticket_of report ≡ Some ticket → All IsTranscript pasts → All (IsSetUpFor p) pasts
     → Contains (told_by pasts) report → Contains (tickets_by pasts) ticket
 ticket_by p [] report ticket named transcripts sets there = absurd (nothing_in _ there)
@@ -412,17 +412,17 @@ ticket_by p (past ∷ pasts) report ticket named transcripts sets there =
           (All-tail (IsSetUpFor p) past pasts sets) other)
     ]
 
-taken_by : (pasts : List (List Deed)) (past : List Deed) (work : Ordered) → Contains pasts past
+taken_by : (pasts : List (List Action)) (past : List Action) (work : Ordered) → Contains pasts past
     → Contains past (Took (order_of work)) → Contains (tickets_by pasts) work.ticket
 taken_by [] past work among taken = absurd (nothing_in _ among)
 taken_by (first ∷ pasts) past work among taken = elim (first_or first pasts past among) [
   | inl same ↦ Contains-append_left (tickets_in first) (tickets_by pasts) work.ticket
-      (ticket_taken first work (subst (λ (deeds : List Deed). Contains deeds (Took (order_of work))) (sym same) taken))
+      (ticket_taken first work (subst (λ (actions : List Action). Contains actions (Took (order_of work))) (sym same) taken))
   | inr later ↦ Contains-append_right (tickets_in first) (tickets_by pasts) work.ticket
       (taken_by pasts past work later taken)
 ]
 
-hands_by : (p : Instance) (pasts : List (List Deed)) (ticket : Ticket) (number : ℕ) (changes other : List Change)
+hands_by : (p : Instance) (pasts : List (List Action)) (ticket : Ticket) (number : ℕ) (changes other : List Change)
     → All IsTranscript pasts → All (IsSetUpFor p) pasts → AreOnce (tickets_by pasts)
     → Contains (told_by pasts) (Hand ticket number changes)
     → Contains (told_by pasts) (Hand ticket number other) → changes ≡ other
@@ -452,8 +452,8 @@ hands_by p (past ∷ pasts) ticket number changes other transcripts sets once on
     ]
 
 -- the order and the end of the task are of one worker
-dones_by : (p : Instance) (pasts : List (List Deed)) (ticket : Ticket) (cutoff : Option ℤ) (count : ℕ)
-    (ending : Ending) (past : List Deed) (work : Ordered) (x : List ℤ) → All IsTranscript pasts
+dones_by : (p : Instance) (pasts : List (List Action)) (ticket : Ticket) (cutoff : Option ℤ) (count : ℕ)
+    (ending : Ending) (past : List Action) (work : Ordered) (x : List ℤ) → All IsTranscript pasts
     → All (IsSetUpFor p) pasts → AreOnce (tickets_by pasts)
     → Contains (told_by pasts) (Done ticket cutoff count ending) → Contains pasts past
     → Contains past (Took (order_of work)) → work.ticket ≡ ticket
@@ -471,7 +471,7 @@ dones_by p (first ∷ pasts) ticket cutoff count ending past work x transcripts 
       | inl here ↦ elim (first_or first pasts past among) [
         | inl same ↦
             let said = said_of p first _ transcript set here in
-            let own = subst (λ (deeds : List Deed). Contains deeds (Took (order_of work))) (sym same) taken in
+            let own = subst (λ (actions : List Action). Contains actions (Took (order_of work))) (sym same) taken in
             in_among (root_of p) (reports_in first) (told_by (first ∷ pasts)) ticket count x
             (λ report there. Contains-append_left (reports_in first) (told_by pasts) report there)
             (done_true (record { problem = p; gap = said.0 }) first ticket cutoff count ending work x said.1
@@ -483,7 +483,7 @@ dones_by p (first ∷ pasts) ticket cutoff count ending past work x transcripts 
       | inr there ↦ elim (first_or first pasts past among) [
         | inl same ↦ absurd (once_apart (tickets_in first) (tickets_by pasts) ticket once
             (subst (Contains (tickets_in first)) its (ticket_taken first work
-            (subst (λ (deeds : List Deed). Contains deeds (Took (order_of work))) (sym same) taken)))
+            (subst (λ (actions : List Action). Contains actions (Took (order_of work))) (sym same) taken)))
             (ticket_by p pasts (Done ticket cutoff count ending) ticket refl rest rest_set there))
         | inr later ↦ in_among (root_of p) (told_by pasts) (told_by (first ∷ pasts)) ticket count x
             (λ report there. Contains-append_right (reports_in first) (told_by pasts) report there)

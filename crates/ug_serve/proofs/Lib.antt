@@ -3,7 +3,7 @@ pub mod Wires
 pub mod Seating
 pub mod Servers
 pub mod Queues
-pub mod Staffs
+pub mod SimWorkers
 pub mod Carried
 pub mod Told
 pub mod Transcribed

@@ -20,7 +20,7 @@ use Rattle.ug_worker.specs.Engagements.{Engaged, HasBegun, IsFoundBy, IsHandedBy
 use Rattle.ug_worker.specs.declared.tally.Tally.{Tally}
 use Rattle.ug_worker.specs.Renewals.{begun}
 use Rattle.ug_worker.proofs.Quiet.{quiet_same}
-use Rattle.ug_serve.specs.Deeds.{Busy, Free, IsForTask, IsTaken, Over, Stage}
+use Rattle.ug_serve.specs.Actions.{Busy, Free, IsForTask, IsTaken, Over, Stage}
 use Rattle.ug_serve.specs.Serving.{HasNext, HasEnded, StandsOn, has_ended, stands_as}
 use Rattle.ug_serve.specs.Keeping.{IsAsked, IsWon}
 use Rattle.ug_serve.specs.Seats.{Agrees, IsGoing, IsObeyed, IsTaskOf, IsOrdered, IsSeated, SeatSeen, agrees, basis_of, stage_of}

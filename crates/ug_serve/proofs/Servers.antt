@@ -13,8 +13,8 @@ use Rattle.ug_serve.specs.declared.server.Post.{Post}
 use Rattle.ug_serve.specs.declared.server.Progress.{Progress}
 use Rattle.ug_serve.specs.declared.server.Server.{Server}
 use Rattle.ug_serve.specs.declared.wire.Wire.{Wire}
-use Rattle.ug_serve.specs.Courses.{ServerState}
-use Rattle.ug_serve.specs.Deeds.{Basis, Blank, Stage}
+use Rattle.ug_serve.specs.Traces.{ServerState}
+use Rattle.ug_serve.specs.Actions.{Basis, Blank, Stage}
 use Rattle.ug_worker.specs.Engagements.{Engaged}
 use Rattle.ug_serve.specs.SeatViews.{seat_seen}
 use Rattle.ug_serve.specs.Seats.{IsSeated, IsOver, SeatSeen, basis_of, stage_of}
@@ -195,7 +195,7 @@ front_by seen None post wire same h =
     let on = posted_on seen post wire same h in (on.0, front_on (seen wire.link) on.0 on.1)
 front_by seen (Some end) post wire same h = front_served (seen wire.link) end h
 
--- a worker's deeds led to a standing, and its link shows that, or a part of a report more
+-- a worker's actions led to a standing, and its link shows that, or a part of a report more
 pub server_front : {L : Type 0} (seen : L → LinkSeen) (server : Server L) → IsServer seen server
     → (now : ServerState) × IsFront (seen server.wire.link) now
 server_front seen server h = front_by seen server.wire.end server.post server.wire refl h

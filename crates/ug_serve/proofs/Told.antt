@@ -1,4 +1,4 @@
--- What a worker's deeds before a moment have, with one deed more.
+-- What a worker's actions before a moment have, with one action more.
 use Rattle.std.proofs.Common.{◌≡◌, ◌⊎◌, inl, inr, ℕ, ℤ, ◌+◌, ◌≤◌, List, [], ◌∷◌, ◌++◌, length, Option, Some, None, IfSome, refl, sym, ap, subst, ◌∙◌, arith}
 use Rattle.std.specs.Prelude.{Contains}
 use Rattle.std.proofs.lemmas.List.{length-append}
@@ -13,7 +13,7 @@ use Rattle.ug_frames.specs.declared.report.Report.TheVariants.{Ready, Solution, 
 use Rattle.ug_frames.specs.declared.report.Report.TheVariants.{Ended}
 use Rattle.ug_frames.specs.Honest.{IsInHands}
 use Rattle.ug_base.proofs.LastBox.{in_one_split}
-use Rattle.ug_serve.specs.Deeds.{Basis, Deed, Came, Took, Told}
+use Rattle.ug_serve.specs.Actions.{Basis, Action, Came, Took, Told}
 use Rattle.ug_serve.specs.Transcripts.{IsKnown, IsUnder, Ordered, hands_among, last_work, later_of, since_order, since_work, work_of}
 
 -- ---- lists with one thing more
@@ -37,19 +37,19 @@ first_or first rest x there = elim (Contains-append_cases (first ∷ []) rest x 
   | inr later ↦ inr later
 ]
 
--- ---- kinds of deeds
+-- ---- kinds of actions
 
-abbrev order_in : Order → Deed → Order
+abbrev order_in : Order → Action → Order
 order_in other (Came bytes) = other
 order_in other (Took order) = order
 order_in other (Told report) = other
 
-abbrev report_in : Report → Deed → Report
+abbrev report_in : Report → Action → Report
 report_in other (Came bytes) = other
 report_in other (Took order) = other
 report_in other (Told report) = report
 
-abbrev kind_of : Deed → ℕ
+abbrev kind_of : Action → ℕ
 kind_of (Came bytes) = 0
 kind_of (Took order) = 1
 kind_of (Told report) = 2
@@ -74,18 +74,18 @@ took_is_no_report order report e = omega (arith, ap kind_of e)
 
 -- ---- an order other than Work
 
-pub last_took : (order : Order) (past : List Deed) → work_of order ≡ None
+pub last_took : (order : Order) (past : List Action) → work_of order ≡ None
     → last_work (Took order ∷ past) ≡ last_work past
 last_took order past none = ap (λ (work : Option Ordered). later_of work (last_work past)) none
 
-pub since_took : (order : Order) (past : List Deed) → work_of order ≡ None
+pub since_took : (order : Order) (past : List Action) → work_of order ≡ None
     → since_work (Took order ∷ past) ≡ Took order ∷ since_work past
 since_took order past none =
     ap (λ (work : Option Ordered). since_order work order (since_work past)) none
 
 -- ---- known facts stay true
 
-abbrev pub under_more : (basis : Basis) (past new : List Deed) (ticket : Ticket) → last_work new ≡ last_work past
+abbrev pub under_more : (basis : Basis) (past new : List Action) (ticket : Ticket) → last_work new ≡ last_work past
     → (u : IsUnder basis past ticket) → IsUnder basis new ticket
 under_more basis past new ticket same u = record {
   work = u.work;
@@ -94,20 +94,20 @@ under_more basis past new ticket same u = record {
   valid = u.valid;
 }
 
-known_more : (basis : Basis) (work : Ordered) (deed : Deed) (since : List Deed) (cutoff : ℤ)
-    → IsKnown basis work since cutoff → IsKnown basis work (deed ∷ since) cutoff
-known_more basis work deed since cutoff (inl own) = inl own
-known_more basis work deed since cutoff (inr (inl ordered)) = inr (inl (behind deed since _ ordered))
-known_more basis work deed since cutoff (inr (inr point)) = inr (inr (record {
+known_more : (basis : Basis) (work : Ordered) (action : Action) (since : List Action) (cutoff : ℤ)
+    → IsKnown basis work since cutoff → IsKnown basis work (action ∷ since) cutoff
+known_more basis work action since cutoff (inl own) = inl own
+known_more basis work action since cutoff (inr (inl ordered)) = inr (inl (behind action since _ ordered))
+known_more basis work action since cutoff (inr (inr point)) = inr (inr (record {
   point = point.point;
-  among = behind deed since _ point.among;
+  among = behind action since _ point.among;
   its = point.its;
 }))
 
-pub some_known : (basis : Basis) (work : Ordered) (deed : Deed) (since : List Deed) (cutoff : Option ℤ)
-    → IfSome cutoff (IsKnown basis work since) → IfSome cutoff (IsKnown basis work (deed ∷ since))
-some_known basis work deed since None known = tt
-some_known basis work deed since (Some cutoff) known = known_more basis work deed since cutoff known
+pub some_known : (basis : Basis) (work : Ordered) (action : Action) (since : List Action) (cutoff : Option ℤ)
+    → IfSome cutoff (IsKnown basis work since) → IfSome cutoff (IsKnown basis work (action ∷ since))
+some_known basis work action since None known = tt
+some_known basis work action since (Some cutoff) known = known_more basis work action since cutoff known
 
 -- ---- boxes that were handed
 

@@ -27,11 +27,11 @@ use Rattle.ug_base.proofs.Floors.{lesser_is}
 use Rattle.ug_worker.specs.declared.tally.Tally.{Tally}
 use Rattle.ug_worker.specs.Engagements.{Engaged, IsFoundBy, IsRenewed, IsStatedBy, IsWanted}
 use Rattle.ug_worker.specs.Renewals.{begun, counted}
-use Rattle.ug_serve.specs.Deeds.{Basis, Deed, Came, Took, Told, IsBegun, IsDoneTold, IsHandTold, IsSetUp, IsTaken, IsTold}
-use Rattle.ug_serve.specs.Deeds.{Stage, Blank, SetUp, Free, Busy, Ending, Over}
-use Rattle.ug_serve.specs.Courses.{IsCourse, ServerState, beginning}
+use Rattle.ug_serve.specs.Actions.{Basis, Action, Came, Took, Told, IsBegun, IsDoneTold, IsHandTold, IsSetUp, IsTaken, IsTold}
+use Rattle.ug_serve.specs.Actions.{Stage, Blank, SetUp, Free, Busy, Ending, Over}
+use Rattle.ug_serve.specs.Traces.{IsTrace, ServerState, beginning}
 use Rattle.ug_serve.specs.Transcripts.{AreSaid, IsBoxTold, IsEndOfTask, IsKnown, IsRestTold, IsSaid, IsSetUpWith, IsTranscript, IsUnder, Ordered, box_of, last_work, reports_in, since_work, told_since, turned, work_of}
-use Rattle.ug_serve.specs.Laws.{CoursesAreTranscripts}
+use Rattle.ug_serve.specs.Laws.{TracesAreTranscripts}
 use Rattle.ug_worker.proofs.Quiet.{last_below}
 use Rattle.ug_worker.proofs.Quiet.{IsSameTask, quiet_same}
 use Rattle.ug_serve.proofs.Told.{AreHands, behind, came_is_no_order, first_or, hands_counted, in_front, in_hands, last_took, same_order, since_took, some_known, told_is_no_order, under_more}
@@ -39,7 +39,7 @@ use Rattle.ug_serve.proofs.Told.{AreHands, behind, came_is_no_order, first_or, h
 -- ---- the problem
 
 -- one problem was ordered, and each report so far is as it has to be
-pub record IsSet (past : List Deed) (basis : Basis) : Type 0 where
+pub record IsSet (past : List Action) (basis : Basis) : Type 0 where
   pub its : IsSetUpWith past basis
   pub only : (other : Basis) → IsSetUpWith past other → other ≡ basis
   pub said : AreSaid basis past
@@ -56,30 +56,30 @@ abbrev bytes_in : Order → List ℕ
 bytes_in (Setup gap bytes) = bytes
 bytes_in order = []
 
-set_more : (past : List Deed) (deed : Deed) (basis : Basis)
-    → ((gap : ℤ) (bytes : List ℕ) → deed ≢ Took (Setup gap bytes)) → AreSaid basis (deed ∷ past)
-    → IsSet past basis → IsSet (deed ∷ past) basis
-set_more past deed basis other said s = record {
-  its = record { bytes = s.its.bytes; among = behind deed past _ s.its.among; its = s.its.its };
-  only = λ b h. s.only b (elim (first_or deed past _ h.among) [
+set_more : (past : List Action) (action : Action) (basis : Basis)
+    → ((gap : ℤ) (bytes : List ℕ) → action ≢ Took (Setup gap bytes)) → AreSaid basis (action ∷ past)
+    → IsSet past basis → IsSet (action ∷ past) basis
+set_more past action basis other said s = record {
+  its = record { bytes = s.its.bytes; among = behind action past _ s.its.among; its = s.its.its };
+  only = λ b h. s.only b (elim (first_or action past _ h.among) [
     | inl first ↦ absurd (other _ _ first)
     | inr there ↦ record { bytes = h.bytes; among = there; its = h.its }
   ]);
   said = said;
 }
 
-set_took : (past : List Deed) (order : Order) (basis : Basis) → is_setup order ≡ 0 → IsSet past basis
+set_took : (past : List Action) (order : Order) (basis : Basis) → is_setup order ≡ 0 → IsSet past basis
     → IsSet (Took order ∷ past) basis
 set_took past order basis none s =
     set_more past (Took order) basis
     (λ gap bytes e. omega (arith, none, ap is_setup (same_order order (Setup gap bytes) e))) s.said s
 
-set_came : (past : List Deed) (bytes : List ℕ) (basis : Basis) → IsSet past basis
+set_came : (past : List Action) (bytes : List ℕ) (basis : Basis) → IsSet past basis
     → IsSet (Came bytes ∷ past) basis
 set_came past bytes basis s =
     set_more past (Came bytes) basis (λ gap more e. came_is_no_order bytes (Setup gap more) e) s.said s
 
-set_told : (past : List Deed) (report : Report) (basis : Basis) → IsSaid basis past report
+set_told : (past : List Action) (report : Report) (basis : Basis) → IsSaid basis past report
     → IsSet past basis → IsSet (Told report ∷ past) basis
 set_told past report basis said s =
     set_more past (Told report) basis (λ gap more e. told_is_no_order report (Setup gap more) e)
@@ -90,7 +90,7 @@ same_basis a b gap problem = ap (λ (p : Instance). record { problem = p; gap = 
     ∙ ap (λ (g : ℤ). record { problem = b.problem; gap = g }) gap
 
 -- the problem was ordered just now
-set_up : (past : List Deed) (gap : ℤ) (bytes : List ℕ) (problem : Instance)
+set_up : (past : List Action) (gap : ℤ) (bytes : List ℕ) (problem : Instance)
     → ((basis : Basis) → ¬ IsSetUpWith past basis) → reports_in past ≡ []
     → IsSetUpWith (Took (Setup gap bytes) ∷ past) (record { problem = problem; gap = gap })
     → (bytes ≡ record_of problem)
@@ -104,7 +104,7 @@ set_up past gap bytes problem none silent its spelled = record {
   said = none_said past silent;
 }
   where
-    none_said : (past : List Deed) → reports_in past ≡ [] → AreSaid (record { problem = problem; gap = gap }) past
+    none_said : (past : List Action) → reports_in past ≡ [] → AreSaid (record { problem = problem; gap = gap }) past
     none_said [] silent = tt
     none_said (Came bytes ∷ past) silent = none_said past silent
     none_said (Took order ∷ past) silent = none_said past silent
@@ -123,7 +123,7 @@ set_up past gap bytes problem none silent its spelled = record {
 -- ---- the task
 
 -- the task is that of the last order of work, and what was sent since is of it
-pub record IsAtTask (basis : Basis) (past : List Deed) (t : TaskState) (racing : Bool) : Type 0 where
+pub record IsAtTask (basis : Basis) (past : List Action) (t : TaskState) (racing : Bool) : Type 0 where
   pub under : IsUnder basis past t.ticket
   pub problem : t.problem ≡ basis.problem
   pub gap : t.gap ≡ basis.gap
@@ -134,7 +134,7 @@ pub record IsAtTask (basis : Basis) (past : List Deed) (t : TaskState) (racing :
   pub known : IfSome t.cutoff (IsKnown basis under.work (since_work past))
 
 -- another state of the same task
-abbrev at_same : (basis : Basis) (past : List Deed) (old new : TaskState) (racing : Bool) → IsSameTask old new
+abbrev at_same : (basis : Basis) (past : List Action) (old new : TaskState) (racing : Bool) → IsSameTask old new
     → IsAtTask basis past old racing → IsAtTask basis past new racing
 at_same basis past old new racing same a = record {
   under = record {
@@ -155,37 +155,37 @@ at_same basis past old new racing same a = record {
       a.known;
 }
 
--- one deed more, behind which these were handed
-abbrev at_more : (basis : Basis) (past new : List Deed) (deed : Deed) (t : TaskState) (racing : Bool)
-    → last_work new ≡ last_work past → since_work new ≡ deed ∷ since_work past
-    → AreHands (root_of basis.problem) t.ticket (reports_in (deed ∷ since_work past)) t.handed
+-- one action more, behind which these were handed
+abbrev at_more : (basis : Basis) (past new : List Action) (action : Action) (t : TaskState) (racing : Bool)
+    → last_work new ≡ last_work past → since_work new ≡ action ∷ since_work past
+    → AreHands (root_of basis.problem) t.ticket (reports_in (action ∷ since_work past)) t.handed
     → IsAtTask basis past t racing → IsAtTask basis new t racing
-at_more basis past new deed t racing last since hands a = record {
+at_more basis past new action t racing last since hands a = record {
   under = under_more basis past new t.ticket last a.under;
   problem = a.problem;
   gap = a.gap;
   whole = a.whole;
-  hands = subst (λ (deeds : List Deed). AreHands (root_of basis.problem) t.ticket (reports_in deeds) t.handed)
+  hands = subst (λ (actions : List Action). AreHands (root_of basis.problem) t.ticket (reports_in actions) t.handed)
       (sym since) hands;
-  won = λ free race. subst (λ (deeds : List Deed). Contains deeds (Took (Winner t.ticket))) (sym since)
-      (behind deed (since_work past) _ (a.won free race));
-  known = subst (λ (deeds : List Deed). IfSome t.cutoff (IsKnown basis a.under.work deeds)) (sym since)
-      (some_known basis a.under.work deed (since_work past) t.cutoff a.known);
+  won = λ free race. subst (λ (actions : List Action). Contains actions (Took (Winner t.ticket))) (sym since)
+      (behind action (since_work past) _ (a.won free race));
+  known = subst (λ (actions : List Action). IfSome t.cutoff (IsKnown basis a.under.work actions)) (sym since)
+      (some_known basis a.under.work action (since_work past) t.cutoff a.known);
 }
 
-abbrev at_came : (basis : Basis) (past : List Deed) (bytes : List ℕ) (t : TaskState) (racing : Bool)
+abbrev at_came : (basis : Basis) (past : List Action) (bytes : List ℕ) (t : TaskState) (racing : Bool)
     → IsAtTask basis past t racing → IsAtTask basis (Came bytes ∷ past) t racing
 at_came basis past bytes t racing a =
     at_more basis past (Came bytes ∷ past) (Came bytes) t racing refl refl a.hands a
 
-abbrev at_took : (basis : Basis) (past : List Deed) (order : Order) (t : TaskState) (racing : Bool)
+abbrev at_took : (basis : Basis) (past : List Action) (order : Order) (t : TaskState) (racing : Bool)
     → work_of order ≡ None → IsAtTask basis past t racing → IsAtTask basis (Took order ∷ past) t racing
 at_took basis past order t racing none a =
     at_more basis past (Took order ∷ past) (Took order) t racing (last_took order past none)
     (since_took order past none) a.hands a
 
 -- a lower cutoff was ordered
-at_lowered : (basis : Basis) (past : List Deed) (t : TaskState) (racing : Bool) (cutoff : ℤ)
+at_lowered : (basis : Basis) (past : List Action) (t : TaskState) (racing : Bool) (cutoff : ℤ)
     → IsAtTask basis past t racing
     → IsAtTask basis (Took (Incumbent cutoff) ∷ past) (record t { cutoff = Some (lesser_of t.cutoff cutoff) }) racing
 at_lowered basis past t racing cutoff a =
@@ -212,7 +212,7 @@ at_lowered basis past t racing cutoff a =
     ]
 
 -- the race was won
-at_won : (basis : Basis) (past : List Deed) (t : TaskState) (racing : Bool) (ticket : Ticket)
+at_won : (basis : Basis) (past : List Action) (t : TaskState) (racing : Bool) (ticket : Ticket)
     → ticket ≡ t.ticket → IsAtTask basis past t racing → IsAtTask basis (Took (Winner ticket) ∷ past) t false
 at_won basis past t racing ticket its a =
     let b = at_took basis past (Winner ticket) t racing refl a in
@@ -228,7 +228,7 @@ at_won basis past t racing ticket its a =
     }
 
 -- work was ordered
-at_begun : (basis : Basis) (past : List Deed) (tally : Tally) (ticket : Ticket) (params : Params) (race : Bool)
+at_begun : (basis : Basis) (past : List Action) (tally : Tally) (ticket : Ticket) (params : Params) (race : Bool)
     (cutoff : Option ℤ) (changes : List Change) (new : Stage)
     → IsBegun basis tally ticket params race cutoff changes new
     → (e : Engaged) × (new ≡ Busy basis (begun tally) e)
@@ -271,7 +271,7 @@ at_begun basis past tally ticket params race cutoff changes new h =
 -- ---- the reports sent of it
 
 -- a point
-at_found : (basis : Basis) (past : List Deed) (e f : Engaged) (ticket : Ticket) (x : List ℤ)
+at_found : (basis : Basis) (past : List Action) (e f : Engaged) (ticket : Ticket) (x : List ℤ)
     → ticket ≡ e.task.ticket → IsFoundBy e x f → IsAtTask basis past e.task e.racing
     → Feasible basis.problem x × IsAtTask basis (Told (Solution ticket x) ∷ past) f.task f.racing
 at_found basis past e f ticket x its h at =
@@ -304,7 +304,7 @@ at_found basis past e f ticket x its h at =
           })),
     )
 
-abbrev under_its : (basis : Basis) (past : List Deed) (ticket other : Ticket) → other ≡ ticket
+abbrev under_its : (basis : Basis) (past : List Action) (ticket other : Ticket) → other ≡ ticket
     → IsUnder basis past ticket → IsUnder basis past other
 under_its basis past ticket other same u = record {
   work = u.work;
@@ -324,7 +324,7 @@ not_racing tally e task (inl wanted) = not_asked e.racing e.asked wanted.due
 not_racing tally e task (inr renewed) = renewed.due.free
 
 -- a box
-at_handed : (basis : Basis) (past : List Deed) (tally : Tally) (e f : Engaged) (ticket : Ticket) (number : ℕ)
+at_handed : (basis : Basis) (past : List Action) (tally : Tally) (e f : Engaged) (ticket : Ticket) (number : ℕ)
     (changes : List Change) → IsCarried (Hand ticket number changes)
     → IsHandTold basis tally e ticket number changes f → IsAtTask basis past e.task e.racing
     → IsBoxTold basis past ticket number changes
@@ -370,7 +370,7 @@ at_handed basis past tally e f ticket number changes carried told at =
     )
 
 -- the boxes left
-at_stated : (basis : Basis) (past : List Deed) (tally : Tally) (e f : Engaged) (ticket : Ticket) (nodes : ℕ) (floor : ℤ)
+at_stated : (basis : Basis) (past : List Action) (tally : Tally) (e f : Engaged) (ticket : Ticket) (nodes : ℕ) (floor : ℤ)
     → ticket ≡ e.task.ticket → IsStatedBy tally e nodes floor f → IsAtTask basis past e.task e.racing
     → IsRestTold basis past ticket nodes × IsAtTask basis (Told (State ticket nodes floor) ∷ past) f.task f.racing
 at_stated basis past tally e f ticket nodes floor its h at =
@@ -393,7 +393,7 @@ at_stated basis past tally e f ticket nodes floor its h at =
     some_left boxes area (k, lt, same) count = omega (arith, lt, count)
 
 -- that nothing is left
-at_done : (basis : Basis) (past : List Deed) (e : Engaged) (ticket : Ticket) (cutoff : Option ℤ) (count : ℕ)
+at_done : (basis : Basis) (past : List Action) (e : Engaged) (ticket : Ticket) (cutoff : Option ℤ) (count : ℕ)
     → IsDoneTold e ticket cutoff count → IsAtTask basis past e.task e.racing
     → IsEndOfTask basis past ticket cutoff count
 at_done basis past e ticket cutoff count told at =
@@ -423,7 +423,7 @@ at_done basis past e ticket cutoff count told at =
 -- ---- each standing
 
 -- facts at each stage
-abbrev Holds : List Deed → Stage → Type 0
+abbrev Holds : List Action → Stage → Type 0
 Holds past Blank = (reports_in past ≡ []) × ((basis : Basis) → ¬ IsSetUpWith past basis)
 Holds past (SetUp basis) = IsSet past basis × (reports_in past ≡ [])
 Holds past (Free basis tally) = IsSet past basis × Contains past (Told Ready)
@@ -433,7 +433,7 @@ Holds past Ending =
     (basis : Basis) × IsSet past basis × Contains past (Told Ready) × Contains past (Took End)
 Holds past Over = (basis : Basis) × IsSet past basis
 
-came_holds : (past : List Deed) (bytes : List ℕ) (stage : Stage) → Holds past stage
+came_holds : (past : List Action) (bytes : List ℕ) (stage : Stage) → Holds past stage
     → Holds (Came bytes ∷ past) stage
 came_holds past bytes Blank (silent, none) = (
   silent,
@@ -453,12 +453,12 @@ came_holds past bytes Over (basis, set) = (basis, set_came past bytes basis set)
 -- ---- orders
 
 -- an order that changes nothing, where there is no task
-free_on : (past : List Deed) (order : Order) (basis : Basis) (tally : Tally) (new : Stage) → is_setup order ≡ 0
+free_on : (past : List Action) (order : Order) (basis : Basis) (tally : Tally) (new : Stage) → is_setup order ≡ 0
     → new ≡ Free basis tally → Holds past (Free basis tally) → Holds (Took order ∷ past) new
 free_on past order basis tally new other same (set, ready) =
     subst (Holds (Took order ∷ past)) (sym same) (set_took past order basis other set, behind _ past _ ready)
 
-begun_on : (past : List Deed) (ticket : Ticket) (params : Params) (race : Bool) (cutoff : Option ℤ)
+begun_on : (past : List Action) (ticket : Ticket) (params : Params) (race : Bool) (cutoff : Option ℤ)
     (changes : List Change) (basis : Basis) (tally : Tally) (new : Stage)
     → IsBegun basis tally ticket params race cutoff changes new → Holds past (Free basis tally)
     → Holds (Took (Work ticket params race cutoff changes) ∷ past) new
@@ -467,7 +467,7 @@ begun_on past ticket params race cutoff changes basis tally new taken (set, read
     subst (Holds (Took (Work ticket params race cutoff changes) ∷ past)) (sym start.1)
     (set_took past _ basis refl set, behind _ past _ ready, start.2)
 
-free_holds : (past : List Deed) (order : Order) (basis : Basis) (tally : Tally) (new : Stage)
+free_holds : (past : List Action) (order : Order) (basis : Basis) (tally : Tally) (new : Stage)
     → IsTaken (Free basis tally) order new → Holds past (Free basis tally) → Holds (Took order ∷ past) new
 free_holds past (Setup gap bytes) basis tally new taken holds = absurd taken
 free_holds past (Work ticket params race cutoff changes) basis tally new taken holds =
@@ -482,18 +482,18 @@ free_holds past End basis tally new taken (set, ready) =
     (basis, set_took past End basis refl set, behind _ past _ ready, in_front (Took End) past)
 
 -- the task continues
-busy_on : (past : List Deed) (order : Order) (basis : Basis) (tally : Tally) (f : Engaged) (new : Stage) → is_setup order ≡ 0
+busy_on : (past : List Action) (order : Order) (basis : Basis) (tally : Tally) (f : Engaged) (new : Stage) → is_setup order ≡ 0
     → new ≡ Busy basis tally f → IsAtTask basis (Took order ∷ past) f.task f.racing → IsSet past basis
     → Contains past (Told Ready) → Holds (Took order ∷ past) new
 busy_on past order basis tally f new other same at set ready =
     subst (Holds (Took order ∷ past)) (sym same) (set_took past order basis other set, behind _ past _ ready, at)
 
 -- it is dropped
-dropped_on : (past : List Deed) (order : Order) (basis : Basis) (tally : Tally) (new : Stage) → is_setup order ≡ 0
+dropped_on : (past : List Action) (order : Order) (basis : Basis) (tally : Tally) (new : Stage) → is_setup order ≡ 0
     → new ≡ Free basis tally → IsSet past basis → Contains past (Told Ready) → Holds (Took order ∷ past) new
 dropped_on past order basis tally new other same set ready = free_on past order basis tally new other same (set, ready)
 
-busy_holds : (past : List Deed) (order : Order) (basis : Basis) (tally : Tally) (e : Engaged) (new : Stage)
+busy_holds : (past : List Action) (order : Order) (basis : Basis) (tally : Tally) (e : Engaged) (new : Stage)
     → IsTaken (Busy basis tally e) order new → Holds past (Busy basis tally e) → Holds (Took order ∷ past) new
 busy_holds past (Setup gap bytes) basis tally e new taken holds = absurd taken
 busy_holds past (Work ticket params race cutoff changes) basis tally e new taken holds = absurd taken
@@ -529,7 +529,7 @@ busy_holds past End basis tally e new (between, same) (set, ready, at) =
     (basis, set_took past End basis refl set, behind _ past _ ready, in_front (Took End) past)
 
 -- the first order
-set_holds : (past : List Deed) (gap : ℤ) (bytes : List ℕ) (new : Stage)
+set_holds : (past : List Action) (gap : ℤ) (bytes : List ℕ) (new : Stage)
     → IsSetUp Blank gap bytes new → Holds past Blank → Holds (Took (Setup gap bytes) ∷ past) new
 set_holds past gap bytes new taken (silent, none) =
     let basis : Basis = record { problem = taken.problem; gap = gap } in
@@ -539,7 +539,7 @@ set_holds past gap bytes new taken (silent, none) =
       silent,
     )
 
-blank_holds : (past : List Deed) (order : Order) (new : Stage) → IsTaken Blank order new → Holds past Blank
+blank_holds : (past : List Action) (order : Order) (new : Stage) → IsTaken Blank order new → Holds past Blank
     → Holds (Took order ∷ past) new
 blank_holds past (Setup gap bytes) new taken holds = set_holds past gap bytes new taken holds
 blank_holds past (Work ticket params race cutoff changes) new taken holds = absurd taken
@@ -550,7 +550,7 @@ blank_holds past (Winner ticket) new taken holds = absurd taken
 blank_holds past (Stop ticket) new taken holds = absurd taken
 blank_holds past End new taken holds = absurd taken
 
-took_holds : (past : List Deed) (order : Order) (old new : Stage) → IsTaken old order new → Holds past old
+took_holds : (past : List Action) (order : Order) (old new : Stage) → IsTaken old order new → Holds past old
     → Holds (Took order ∷ past) new
 took_holds past order Blank new taken holds = blank_holds past order new taken holds
 took_holds past order (SetUp basis) new taken holds = absurd taken
@@ -562,13 +562,13 @@ took_holds past order Over new taken holds = absurd taken
 -- ---- reports
 
 -- the task continues
-told_on : (past : List Deed) (report : Report) (basis : Basis) (tally : Tally) (f : Engaged) (new : Stage)
+told_on : (past : List Action) (report : Report) (basis : Basis) (tally : Tally) (f : Engaged) (new : Stage)
     → new ≡ Busy basis tally f → IsSaid basis past report → IsAtTask basis (Told report ∷ past) f.task f.racing
     → IsSet past basis → Contains past (Told Ready) → Holds (Told report ∷ past) new
 told_on past report basis tally f new same said at set ready =
     subst (Holds (Told report ∷ past)) (sym same) (set_told past report basis said set, behind _ past _ ready, at)
 
-telling_holds : (past : List Deed) (report : Report) (basis : Basis) (tally : Tally) (e : Engaged) (new : Stage)
+telling_holds : (past : List Action) (report : Report) (basis : Basis) (tally : Tally) (e : Engaged) (new : Stage)
     → IsCarried report → IsTold (Busy basis tally e) report new → Holds past (Busy basis tally e)
     → Holds (Told report ∷ past) new
 telling_holds past Ready basis tally e new carried told holds = absurd told
@@ -591,7 +591,7 @@ telling_holds past (Done ticket cutoff count ending) basis tally e new carried (
 telling_holds past Ended basis tally e new carried told holds = absurd told
 
 -- the first report
-ready_holds : (past : List Deed) (report : Report) (basis : Basis) (new : Stage)
+ready_holds : (past : List Action) (report : Report) (basis : Basis) (new : Stage)
     → IsTold (SetUp basis) report new → Holds past (SetUp basis) → Holds (Told report ∷ past) new
 ready_holds past Ready basis new told (set, silent) =
     subst (Holds (Told Ready ∷ past)) (sym told)
@@ -603,7 +603,7 @@ ready_holds past (Done ticket cutoff count ending) basis new told holds = absurd
 ready_holds past Ended basis new told holds = absurd told
 
 -- the last one
-end_holds : (past : List Deed) (report : Report) (new : Stage) → IsTold Ending report new → Holds past Ending
+end_holds : (past : List Action) (report : Report) (new : Stage) → IsTold Ending report new → Holds past Ending
     → Holds (Told report ∷ past) new
 end_holds past Ready new told holds = absurd told
 end_holds past (Solution ticket x) new told holds = absurd told
@@ -613,7 +613,7 @@ end_holds past (Done ticket cutoff count ending) new told holds = absurd told
 end_holds past Ended new told (basis, set, ready, ordered) =
     subst (Holds (Told Ended ∷ past)) (sym told) (basis, set_told past Ended basis (ready, ordered) set)
 
-told_holds : (past : List Deed) (report : Report) (old new : Stage) → IsCarried report → IsTold old report new
+told_holds : (past : List Action) (report : Report) (old new : Stage) → IsCarried report → IsTold old report new
     → Holds past old → Holds (Told report ∷ past) new
 told_holds past report Blank new carried told holds = absurd told
 told_holds past report (SetUp basis) new carried told holds = ready_holds past report basis new told holds
@@ -625,28 +625,28 @@ told_holds past report Over new carried told holds = absurd told
 
 -- ---- from the beginning
 
-course_holds : (past : List Deed) (old : ServerState) (deeds : List Deed) (now : ServerState) → IsCourse old deeds now
-    → Holds past old.stage → Holds (turned past deeds) now.stage
-course_holds past old [] now same holds =
+trace_holds : (past : List Action) (old : ServerState) (actions : List Action) (now : ServerState) → IsTrace old actions now
+    → Holds past old.stage → Holds (turned past actions) now.stage
+trace_holds past old [] now same holds =
     subst (λ (s : ServerState). Holds past s.stage) (sym same) holds
-course_holds past old (Came bytes ∷ deeds) now (mid, does, more) holds =
-    course_holds (Came bytes ∷ past) mid deeds now more
+trace_holds past old (Came bytes ∷ actions) now (mid, does, more) holds =
+    trace_holds (Came bytes ∷ past) mid actions now more
     (subst (λ (s : ServerState). Holds (Came bytes ∷ past) s.stage) (sym does)
     (came_holds past bytes old.stage holds))
-course_holds past old (Took order ∷ deeds) now (mid, does, more) holds =
-    course_holds (Took order ∷ past) mid deeds now more
+trace_holds past old (Took order ∷ actions) now (mid, does, more) holds =
+    trace_holds (Took order ∷ past) mid actions now more
     (took_holds past order old.stage mid.stage does.taken holds)
-course_holds past old (Told report ∷ deeds) now (mid, does, more) holds =
-    course_holds (Told report ∷ past) mid deeds now more
+trace_holds past old (Told report ∷ actions) now (mid, does, more) holds =
+    trace_holds (Told report ∷ past) mid actions now more
     (told_holds past report old.stage mid.stage does.carried does.due holds)
 
-set_transcript : (past : List Deed) (basis : Basis) → IsSet past basis → IsTranscript past
+set_transcript : (past : List Action) (basis : Basis) → IsSet past basis → IsTranscript past
 set_transcript past basis s = record {
   set_up = inr (basis, s.its);
   said = λ other h. subst (λ (b : Basis). AreSaid b past) (sym (s.only other h)) s.said;
 }
 
-transcript : (past : List Deed) (stage : Stage) → Holds past stage → IsTranscript past
+transcript : (past : List Action) (stage : Stage) → Holds past stage → IsTranscript past
 transcript past Blank (silent, none) = record {
   set_up = inl silent;
   said = λ basis h. absurd (none basis h);
@@ -658,11 +658,11 @@ transcript past Ending (basis, set, ready, ordered) = set_transcript past basis 
 transcript past Over (basis, set) = set_transcript past basis set
 
 none_yet : (basis : Basis) → ¬ IsSetUpWith [] basis
-none_yet basis h = no_deed _ h.among
+none_yet basis h = no_action _ h.among
   where
-    no_deed : (deed : Deed) → Contains [] deed → ⊥
-    no_deed deed (k, lt, same) = omega (arith, lt)
+    no_action : (action : Action) → Contains [] action → ⊥
+    no_action action (k, lt, same) = omega (arith, lt)
 
-pub courses_are_transcripts : CoursesAreTranscripts
-courses_are_transcripts deeds now course =
-    transcript (turned [] deeds) now.stage (course_holds [] beginning deeds now course (refl, none_yet))
+pub traces_are_transcripts : TracesAreTranscripts
+traces_are_transcripts actions now trace =
+    transcript (turned [] actions) now.stage (trace_holds [] beginning actions now trace (refl, none_yet))

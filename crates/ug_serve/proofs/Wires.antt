@@ -12,23 +12,23 @@ use Rattle.ug_frames.specs.OrderFrames as orders
 use Rattle.ug_frames.specs.ReportFrames as reports
 use Rattle.ug_stream.specs.Streams.{IsBadAt, Waiting, fed}
 use Rattle.ug_serve.specs.Tellings.{HasToldAll, HasToldFront}
-use Rattle.ug_serve.specs.Deeds.{Deed, Came, Took, Told, Stage, IsTaken, IsTold}
-use Rattle.ug_serve.specs.Courses.{Does, HasCome, IsCourse, IsFresh, ServerState, beginning}
+use Rattle.ug_serve.specs.Actions.{Action, Came, Took, Told, Stage, IsTaken, IsTold}
+use Rattle.ug_serve.specs.Traces.{NextState, Reaches, IsTrace, IsFresh, ServerState, beginning}
 use Rattle.ug_serve.specs.Serving.{HasFailed, HasMetBad, HasNext, HasWanted, IsOn, IsOpen, IsPartTold, StandsOn}
 
--- ---- one deed more
+-- ---- one action more
 
-pub course_more : (a : ServerState) (deeds : List Deed) (b c : ServerState) (deed : Deed) → IsCourse a deeds b
-    → Does b deed c → IsCourse a (deeds ++ deed ∷ []) c
-course_more a [] b c deed same does =
-    (c, subst (λ (old : ServerState). Does old deed c) same does, refl)
-course_more a (first ∷ deeds) b c deed (mid, done, more) does =
-    (mid, done, course_more mid deeds b c deed more does)
+pub trace_more : (a : ServerState) (actions : List Action) (b c : ServerState) (action : Action) → IsTrace a actions b
+    → NextState b action c → IsTrace a (actions ++ action ∷ []) c
+trace_more a [] b c action same does =
+    (c, subst (λ (old : ServerState). NextState old action c) same does, refl)
+trace_more a (first ∷ actions) b c action (mid, done, more) does =
+    (mid, done, trace_more mid actions b c action more does)
 
-pub come_more : (b c : ServerState) (deed : Deed) → HasCome b → Does b deed c → HasCome c
-come_more b c deed h does = record {
-  deeds = h.deeds ++ deed ∷ [];
-  course = course_more beginning h.deeds b c deed h.course does;
+pub come_more : (b c : ServerState) (action : Action) → Reaches b → NextState b action c → Reaches c
+come_more b c action h does = record {
+  actions = h.actions ++ action ∷ [];
+  trace = trace_more beginning h.actions b c action h.trace does;
 }
 
 -- ---- no bad bytes so far
@@ -40,19 +40,19 @@ fed_so w bytes fine = rw fine refl
 pub fed_fine : (w : Waiting) (bytes : List ℕ) → w.bad ≡ false → (fed w bytes).bad ≡ false
 fed_fine w bytes fine = ap (λ (fed : Waiting). fed.bad) (fed_so w bytes fine) ∙ fine
 
-course_fine : (a : ServerState) (deeds : List Deed) (b : ServerState) → a.waiting.bad ≡ false
-    → IsCourse a deeds b → b.waiting.bad ≡ false
-course_fine a [] b fine same = ap (λ (now : ServerState). now.waiting.bad) same ∙ fine
-course_fine a (Came bytes ∷ deeds) b fine (mid, done, more) =
-    course_fine mid deeds b
+trace_fine : (a : ServerState) (actions : List Action) (b : ServerState) → a.waiting.bad ≡ false
+    → IsTrace a actions b → b.waiting.bad ≡ false
+trace_fine a [] b fine same = ap (λ (now : ServerState). now.waiting.bad) same ∙ fine
+trace_fine a (Came bytes ∷ actions) b fine (mid, done, more) =
+    trace_fine mid actions b
     (ap (λ (now : ServerState). now.waiting.bad) done ∙ fed_fine a.waiting bytes fine) more
-course_fine a (Took order ∷ deeds) b fine (mid, done, more) =
-    course_fine mid deeds b done.given.still more
-course_fine a (Told report ∷ deeds) b fine (mid, done, more) =
-    course_fine mid deeds b (ap (λ (w : Waiting). w.bad) done.waiting ∙ fine) more
+trace_fine a (Took order ∷ actions) b fine (mid, done, more) =
+    trace_fine mid actions b done.given.still more
+trace_fine a (Told report ∷ actions) b fine (mid, done, more) =
+    trace_fine mid actions b (ap (λ (w : Waiting). w.bad) done.waiting ∙ fine) more
 
-come_fine : (b : ServerState) → HasCome b → b.waiting.bad ≡ false
-come_fine b h = course_fine beginning h.deeds b refl h.course
+come_fine : (b : ServerState) → Reaches b → b.waiting.bad ≡ false
+come_fine b h = trace_fine beginning h.actions b refl h.trace
 
 -- ---- what the link sends
 
@@ -78,7 +78,7 @@ said_front now (Some s) same = inl same
 
 pub on_fresh : (seen : LinkSeen) → IsFresh seen → IsOn seen beginning
 on_fresh seen fresh = record {
-  come = record { deeds = []; course = refl };
+  come = record { actions = []; trace = refl };
   said = fresh.said;
   ended = fresh.ended;
   faults = fresh.faults;

@@ -1,5 +1,5 @@
-pub mod Deeds
-pub mod Courses
+pub mod Actions
+pub mod Traces
 pub mod Tellings
 pub mod Serving
 pub mod Keeping
@@ -7,7 +7,7 @@ pub mod Seats
 pub mod SeatViews
 pub mod Servers
 pub mod Queues
-pub mod Staffs
+pub mod SimWorkers
 pub mod WorkerCrews
 pub mod Transcripts
 pub mod Laws

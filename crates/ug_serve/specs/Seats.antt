@@ -10,7 +10,7 @@ use Rattle.ug_stream.specs.Streams.{Waiting}
 use Rattle.ug_serve.specs.declared.served.Served.{Served}
 use Rattle.ug_serve.specs.declared.kept.Kept.{Kept}
 use Rattle.ug_worker.specs.declared.tally.Tally.{Tally}
-use Rattle.ug_serve.specs.Deeds.{Basis, Busy, Free, Stage, task_of}
+use Rattle.ug_serve.specs.Actions.{Basis, Busy, Free, Stage, task_of}
 use Rattle.ug_problem.specs.Instances.{root_of}
 use Rattle.ug_branch.specs.declared.params.Params.{Params}
 use Rattle.ug_nodes.specs.declared.change.Change.{Change}

@@ -8,14 +8,14 @@ use Rattle.ug_serve.specs.declared.server.Progress.{Progress}
 use Rattle.ug_serve.specs.declared.server.Progress.TheVariants.{GoesOn, Waits, Ended}
 use Rattle.ug_serve.specs.declared.server.Server.{Server}
 use Rattle.ug_serve.specs.declared.wire.Wire.{Wire}
-use Rattle.ug_serve.specs.Courses.{ServerState}
-use Rattle.ug_serve.specs.Deeds.{Blank}
+use Rattle.ug_serve.specs.Traces.{ServerState}
+use Rattle.ug_serve.specs.Actions.{Blank}
 use Rattle.ug_serve.specs.SeatViews.{seat_seen}
 use Rattle.ug_serve.specs.Seats.{IsSeated}
 use Rattle.ug_serve.specs.Serving.{HasServed, IsOn, StandsOn}
 use Rattle.ug_worker.specs.Workers.{IsAtWork}
 
--- a worker's deeds led from the beginning to a state, and its link shows them; or its service
+-- a worker's actions led from the beginning to a state, and its link shows them; or its service
 -- has ended
 abbrev pub IsServing : LinkSeen → Progress → Type 0
 IsServing seen GoesOn = (now : ServerState) × IsOn seen now

@@ -9,8 +9,8 @@ use Rattle.ug_frames.specs.Fronts.{BeginsWith, IsDecoded}
 use Rattle.ug_frames.specs.OrderFrames as orders
 use Rattle.ug_frames.specs.ReportFrames as reports
 use Rattle.ug_stream.specs.Streams.{IsGiven, Waiting}
-use Rattle.ug_serve.specs.Courses.{HasCome, ServerState}
-use Rattle.ug_serve.specs.Deeds.{Blank, Busy, Ending, Free, Over, SetUp, Stage, IsTaken, IsTold}
+use Rattle.ug_serve.specs.Traces.{Reaches, ServerState}
+use Rattle.ug_serve.specs.Actions.{Blank, Busy, Ending, Free, Over, SetUp, Stage, IsTaken, IsTold}
 use Rattle.ug_serve.specs.declared.served.Served.{Served}
 use Rattle.ug_serve.specs.declared.served.Served.TheVariants.{BadFrame, Ended, LinkFault, Memory}
 
@@ -23,10 +23,10 @@ IsOpen (Busy basis tally e) = Unit {0}
 IsOpen Ending = ⊥
 IsOpen Over = ⊥
 
--- a worker's deeds led to this state; the link, where it says what was said, sends the same; it
+-- a worker's actions led to this state; the link, where it says what was said, sends the same; it
 -- has not ended, and no call of it failed
 pub record IsOn (seen : LinkSeen) (now : ServerState) : Type 0 where
-  pub come : HasCome now
+  pub come : Reaches now
   pub said : IfSome seen.said (λ said. said ≡ now.said)
   pub ended : seen.ended ≡ false
   pub faults : seen.faults ≡ 0
@@ -49,7 +49,7 @@ pub record IsPartTold (now : ServerState) (said : List Said) : Type 0 where
 
 -- what was sent is a prefix of what a worker sends
 pub record IsFront (seen : LinkSeen) (now : ServerState) : Type 0 where
-  pub come : HasCome now
+  pub come : Reaches now
   pub said : IfSome seen.said (λ said. (said ≡ now.said) ⊎ IsPartTold now said)
 
 -- no call failed, and the link ended before the end was ordered

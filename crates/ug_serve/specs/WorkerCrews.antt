@@ -8,7 +8,7 @@ use Rattle.ug_serve.specs.declared.crew.WorkerCrew.{WorkerCrew}
 
 -- what was received and sent, and who is lost
 abbrev pub exchanged_of : WorkerCrew → List Exchange
-exchanged_of c = c.staff
+exchanged_of c = c.sim_workers
 
 -- the observation of it
 abbrev pub crew_seen : WorkerCrew → CrewSeen

@@ -6,7 +6,7 @@ ghost use Rattle.ug_io.specs.Crews.{HasTurned, IsAlive, IsSilent};
 ghost use Rattle.ug_io.specs.declared.crew.Came.TheVariants.{Bytes};
 
 use crate::server::Progress;
-use crate::staff::Staff;
+use crate::sim_workers::SimWorkers;
 use std::alloc::{AllocError, Global};
 use ug_io::{Came, Crew, Exchange, Failed, zeros};
 
@@ -44,14 +44,14 @@ pub struct WorkerCrew<'a> {
     // Whose turn it is behind the schedule.
     next: u32,
     lives: Vec<bool>,
-    staff: Staff,
+    sim_workers: SimWorkers,
     // The rest of the schedule.
     schedule: &'a [Visit],
     is_finished: bool,
 }
 
 impl<'a> WorkerCrew<'a> {
-    ghost use Rattle.ug_serve.specs.Staffs.{AreAlwaysWorked};
+    ghost use Rattle.ug_serve.specs.SimWorkers.{AreAlwaysWorked};
     ghost use Rattle.ug_serve.specs.WorkerCrews.{HasVisited, crew_seen, exchanged_of};
 
     /// A crew of this many ranks, none of which lives yet.
@@ -64,8 +64,8 @@ impl<'a> WorkerCrew<'a> {
             ≡ record { said = Some []; lives = replicate ranks false; faults = 0 }) }
     {
         let lives = vec![in alloc; false; ranks as usize]?;
-        let staff = match Staff::new(alloc, ranks) {
-            Ok(staff) => staff,
+        let sim_workers = match SimWorkers::new(alloc, ranks) {
+            Ok(sim_workers) => sim_workers,
             Err(error) => {
                 drop(lives);
                 return Err(error);
@@ -73,7 +73,7 @@ impl<'a> WorkerCrew<'a> {
         };
         Ok(WorkerCrew {
             alloc,
-            staff,
+            sim_workers,
             lives,
             schedule,
             next: 0,
@@ -86,7 +86,7 @@ impl<'a> WorkerCrew<'a> {
     pub fn exchanged(&self) -> &[Exchange]
         ensures { result.now ≡ exchanged_of self.now }
     {
-        self.staff.exchanged()
+        self.sim_workers.exchanged()
     }
 
     /// How often a call failed, up to the end of the count.
@@ -101,15 +101,15 @@ impl<'a> WorkerCrew<'a> {
     pub fn is_worked(&self)
         ensures { AreAlwaysWorked (exchanged_of self.now) }
     {
-        self.staff.is_worked();
+        self.sim_workers.is_worked();
     }
 
     /// Lets the rank's worker want memory: its service ends, and the rank is lost once all that it
     /// sent before was received.
-    pub fn exhaust(&mut self, rank: u32)
+    pub fn inject_out_of_memory(&mut self, rank: u32)
         ensures { crew_seen self.new ≡ crew_seen self.old }
     {
-        self.staff.exhaust(rank);
+        self.sim_workers.inject_out_of_memory(rank);
     }
 
     // One fault more.
@@ -131,7 +131,7 @@ impl<'a> WorkerCrew<'a> {
         if !self.is_alive(rank) {
             return Ok(Visited::Still);
         }
-        let progress = self.staff.step(rank, visit.orders);
+        let progress = self.sim_workers.step(rank, visit.orders);
         match self.hear(rank, visit.reports, buffer)? {
             0 => self.leave(rank, progress),
             count => Ok(Visited::Came(Came::Bytes { rank, count })),
@@ -139,7 +139,7 @@ impl<'a> WorkerCrew<'a> {
     }
 
     // Receives the rank.
-    #[tactic(auto, using(crate::proofs::Staffs::heard_none))]
+    #[tactic(auto, using(crate::proofs::SimWorkers::heard_none))]
     fn hear(&mut self, rank: u32, most: usize, buffer: &mut [u8]) -> Result<usize, Failed>
         requires { IsAlive (crew_seen self.old) rank }
         ensures came { IfOk result (λ count. 0 < count
@@ -149,7 +149,7 @@ impl<'a> WorkerCrew<'a> {
         ensures kept { OnErr result (IsSilent (crew_seen self.old) (crew_seen self.new)) }
         ensures cause { OnErr result (Rose (crew_seen self.old).faults (crew_seen self.new).faults) }
     {
-        match self.staff.hear(rank, most, buffer) {
+        match self.sim_workers.hear(rank, most, buffer) {
             Ok(count) => Ok(count),
             Err(_) => {
                 self.fail();
@@ -170,7 +170,7 @@ impl<'a> WorkerCrew<'a> {
             Progress::GoesOn => Ok(Visited::Moved),
             Progress::Waits => Ok(Visited::Still),
             Progress::Ended(_) => {
-                if self.staff.is_full(rank) {
+                if self.sim_workers.is_full(rank) {
                     return Ok(Visited::Moved);
                 }
                 self.lose(rank)
@@ -187,7 +187,7 @@ impl<'a> WorkerCrew<'a> {
         ensures cause { OnErr result (Rose (crew_seen self.old).faults (crew_seen self.new).faults) }
     {
         self.fail();
-        if self.staff.lose(rank).is_err() {
+        if self.sim_workers.lose(rank).is_err() {
             return Err(Failed);
         }
         self.lives[rank as usize] = false;
@@ -279,7 +279,7 @@ impl Crew for WorkerCrew<'_> {
             self.fail();
             return Err(Failed);
         };
-        if !self.staff.man(rank, input) {
+        if !self.sim_workers.start(rank, input) {
             self.fail();
             return Err(Failed);
         }
@@ -303,7 +303,7 @@ impl Crew for WorkerCrew<'_> {
     }
 
     fn send(&mut self, rank: u32, bytes: &[u8]) -> Result<(), Failed> {
-        if self.staff.tell(rank, bytes).is_err() {
+        if self.sim_workers.tell(rank, bytes).is_err() {
             self.fail();
             return Err(Failed);
         }

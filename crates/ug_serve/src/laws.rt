@@ -1,12 +1,12 @@
 ghost use Rattle.ug_serve.specs.CrewLaws.{WorkersAreHeard};
 ghost use Rattle.ug_serve.specs.Endings.{ServicesEndInOneWay};
-ghost use Rattle.ug_serve.specs.Laws.{CoursesAreTranscripts, WorkersAreHonest};
+ghost use Rattle.ug_serve.specs.Laws.{TracesAreTranscripts, WorkersAreHonest};
 
 /// What a worker at a link sends is true by what it received and sent before, whatever comes: it is
 /// in order, and an end of a task is sent only where the whole box was searched but for what was
 /// handed.
-pub fn courses_are_transcripts()
-    ensures { CoursesAreTranscripts }
+pub fn traces_are_transcripts()
+    ensures { TracesAreTranscripts }
 {}
 
 /// What such workers send is honest, where no ticket was ordered twice.

@@ -13,19 +13,19 @@ mod kept;
 mod laws;
 mod link_seat;
 mod parts;
-mod places;
 mod queue_link;
 mod saying;
 mod served;
 mod server;
 mod serving;
-mod staff;
+mod sim_workers;
+mod slots;
 mod telling;
 mod wire;
 
 pub use crew::{Visit, WorkerCrew};
 pub use laws::{
-    courses_are_transcripts, services_end_in_one_way, workers_are_heard, workers_are_honest,
+    services_end_in_one_way, traces_are_transcripts, workers_are_heard, workers_are_honest,
 };
 pub use queue_link::QueueLink;
 pub use served::Served;

@@ -9,7 +9,7 @@ ghost use Rattle.ug_frames.specs.declared.order.Order.TheVariants.{Work};
 ghost use Rattle.ug_worker.specs.declared.tally.Tally.{Tally};
 ghost use Rattle.ug_worker.specs.Engagements.{Engaged, HasTaken, IsReplied, lowered};
 ghost use Rattle.ug_serve.specs.Seats.{IsGoing, IsObeyed, IsOrdered, IsOver, IsSeated, IsTaskOf, basis_of};
-ghost use Rattle.ug_serve.specs.Deeds.{task_of};
+ghost use Rattle.ug_serve.specs.Actions.{task_of};
 ghost use Rattle.ug_rows.specs.Boxes.{IsBelow};
 
 use crate::kept::Kept;

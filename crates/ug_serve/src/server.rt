@@ -3,8 +3,8 @@
 ghost use Rattle.std.specs.Prelude.{◌≡◌, ◌<◌, None, Some, length};
 ghost use Rattle.ug_problem.specs.Better.{IsGap};
 ghost use Rattle.ug_frames.specs.declared.order.Order.TheVariants.{Setup};
-ghost use Rattle.ug_serve.specs.Deeds.{Blank, SetUp};
-ghost use Rattle.ug_serve.specs.Courses.{IsFresh};
+ghost use Rattle.ug_serve.specs.Actions.{Blank, SetUp};
+ghost use Rattle.ug_serve.specs.Traces.{IsFresh};
 ghost use Rattle.ug_serve.specs.Serving.{HasNext, has_ended, stands_as};
 ghost use Rattle.ug_worker.specs.Renewals.{fresh, usual};
 ghost use Rattle.ug_serve.specs.SeatViews.{seat_seen};
@@ -104,7 +104,7 @@ impl<L: Link + Drop> Server<L> {
 
     /// Lets its service end for lack of memory, unless it has ended: so it is where memory that it
     /// asks for is refused.
-    pub fn exhaust(&mut self)
+    pub fn inject_out_of_memory(&mut self)
         requires { IsServer L.seen self.old }
         ensures server { IsServer L.seen self.new }
         ensures link { self.new.wire.link ≡ self.old.wire.link }

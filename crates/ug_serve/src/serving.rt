@@ -1,7 +1,7 @@
 //! A worker that serves a link to its end.
 
 ghost use Rattle.std.specs.Prelude.{◌≡◌, IfErr, IfOk};
-ghost use Rattle.ug_serve.specs.Courses.{IsFresh};
+ghost use Rattle.ug_serve.specs.Traces.{IsFresh};
 ghost use Rattle.ug_serve.specs.Serving.{HasServed};
 ghost use Rattle.ug_serve.specs.Servers.{IsServer};
 

@@ -6,8 +6,8 @@ ghost use Rattle.ug_frames.specs.declared.order.Order.{Order};
 ghost use Rattle.ug_frames.specs.declared.report.Report.{Report};
 ghost use Rattle.ug_frames.specs.Reports.{IsReport};
 ghost use Rattle.ug_frames.specs.ReportFrames.{IsCarried, spelled};
-ghost use Rattle.ug_serve.specs.Courses.{IsFresh};
-ghost use Rattle.ug_serve.specs.Deeds.{Stage, Blank, Ending, IsTaken, IsTold};
+ghost use Rattle.ug_serve.specs.Traces.{IsFresh};
+ghost use Rattle.ug_serve.specs.Actions.{Stage, Blank, Ending, IsTaken, IsTold};
 ghost use Rattle.ug_frames.specs.declared.order.Order.TheVariants.{End};
 ghost use Rattle.ug_serve.specs.Serving.{HasNext, HasServed, IsOpen, StandsOn, comes_next, has_ended, stands_as};
 

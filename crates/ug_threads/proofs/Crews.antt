@@ -11,8 +11,8 @@ use Rattle.ug_desk.proofs.Seating.{each_more, next_at}
 use Rattle.ug_threads.specs.declared.crew.Back.{Back}
 use Rattle.ug_threads.specs.declared.crew.Crew.{Crew}
 use Rattle.ug_threads.specs.declared.crew.Table.{Table}
-use Rattle.ug_threads.specs.Courses.{IsSeated}
-use Rattle.ug_threads.proofs.Courses.{away_gone, come_sat, gone_same}
+use Rattle.ug_threads.specs.Traces.{IsSeated}
+use Rattle.ug_threads.proofs.Traces.{away_gone, come_sat, gone_same}
 use Rattle.ug_threads.specs.Places.{IsAt, IsAtOf}
 use Rattle.ug_threads.specs.Crews.{ArePassesAt, ArePromised, HasPass, HasRank, PromiseRank, IsCrewAt, IsNewCrew, IsPassAt, IsPromise, count_of}
 
@@ -259,13 +259,13 @@ pub sat_at : (table : Table) (p : PassState) (renewal : Option Renewal)
     → IfSome renewal (λ rule. rule ≡ usual) → IsPassAt table p
     → IsSeated table.desk.now p (record { count = 0; racing = true }) (fresh renewal) None
 sat_at table p renewal is at =
-    record { lock = at.lock; course = come_sat renewal p is at.course; its = tt }
+    record { lock = at.lock; trace = come_sat renewal p is at.trace; its = tt }
 
 pub gone_at : (table : Table) (p q : PassState) → HasLeft p q → IsPassAt table p → IsPassAt table q
 gone_at table p q gone at = record {
   lock = (gone_same p q gone).0 ∙ at.lock;
   opened = (gone_same p q gone).2 ∙ at.opened;
-  course = away_gone p q gone at.course;
+  trace = away_gone p q gone at.trace;
 }
 
 pub back_more : (table : Table) (all xs : List PassState) (p : PassState) → all ≡ xs ++ p ∷ []

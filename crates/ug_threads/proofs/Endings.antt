@@ -9,7 +9,7 @@ use Rattle.ug_book.specs.declared.opening.Opening.{Opening}
 use Rattle.ug_book.specs.Openings.{IsCoveredOpening, opening_book}
 use Rattle.ug_restart.specs.Outcomes.{IfBook}
 use Rattle.ug_restart.specs.Outcomes.{HasFeasible, IfAnswered, IfLimited, IsLimited}
-use Rattle.ug_threads.specs.Courses.{IsLedByWorkers}
+use Rattle.ug_threads.specs.Traces.{IsLedByWorkers}
 use Rattle.ug_threads.specs.Ends.{IsEnding, IsReplayOf}
 use Rattle.ug_restart.specs.Outcomes.{IsRight, IsStranded}
 use Rattle.ug_threads.specs.Outcomes.{HasEnded}

@@ -1,4 +1,4 @@
-pub mod Courses
+pub mod Traces
 pub mod Endings
 pub mod Outcomes
 pub mod Crews

@@ -6,10 +6,10 @@ use Rattle.ug_desk.specs.declared.desk.Desk.{Desk}
 use Rattle.ug_desk.specs.Entries.{LockedState}
 use Rattle.ug_desk.specs.Histories.{Entry}
 use Rattle.ug_desk.specs.Passes.{AreNewPasses, IsClosed, IsInHistory, PassState, calls_of, lock_of_desk, width_of}
-use Rattle.ug_threads.specs.Courses.{IsCourse, IsLedByWorkers}
-use Rattle.ug_threads.specs.Deeds.{Away}
+use Rattle.ug_threads.specs.Traces.{IsTrace, IsLedByWorkers}
+use Rattle.ug_threads.specs.Actions.{Away}
 use Rattle.ug_threads.specs.Rooms.{AreAllOf}
-use Rattle.ug_threads.proofs.Courses.{come_new, within_more}
+use Rattle.ug_threads.proofs.Traces.{come_new, within_more}
 
 -- a list has an item at each place within it
 some_at : (passes : List PassState) (k : ℕ) → k < length passes
@@ -25,7 +25,7 @@ all_new d o passes count wide new = record {
   at = λ k p there. record {
     lock = (new k p there).lock_is;
     opened = (new k p there).opened;
-    course = come_new p (new k p there).mine;
+    trace = come_new p (new k p there).mine;
   };
   count = count ∙ sym wide;
   wide = wide;
@@ -36,14 +36,14 @@ all_new d o passes count wide new = record {
 
 -- the course of a pass is what its entries in the history are
 pass_worked : (o : Opening) (p : PassState) (history : List Entry) (r : ℕ) → p.rank ≡ r
-    → IsInHistory history p → IsCourse o p.rank p.seen p.mine Away
-    → IsCourse o r history (calls_of r history) Away
+    → IsInHistory history p → IsTrace o p.rank p.seen p.mine Away
+    → IsTrace o r history (calls_of r history) Away
 pass_worked o p history r own in_ c =
-    subst (λ (k : ℕ). IsCourse o k history (calls_of k history) Away) own (record {
-      deeds = c.deeds;
+    subst (λ (k : ℕ). IsTrace o k history (calls_of k history) Away) own (record {
+      actions = c.actions;
       lead = c.lead;
       calls = c.calls ∙ sym in_.own;
-      within = within_more p.seen history c.deeds in_.begins c.within;
+      within = within_more p.seen history c.actions in_.begins c.within;
     })
 
 -- what stands where a desk is closed
@@ -56,6 +56,6 @@ worked_of d o passes l all closed = record {
       let (k, p, there, own) = all.each r (omega (arith, below, all.wide)) in
       let in_ = closed.each k p there in
       let at = all.at k p there in
-      pass_worked o p closed.history r own in_ (at.course o at.opened).course;
+      pass_worked o p closed.history r own in_ (at.trace o at.opened).trace;
   none = λ r above. closed.none r (omega (arith, above, all.count, all.wide));
 }

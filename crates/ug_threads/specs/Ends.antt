@@ -4,7 +4,7 @@ use Rattle.ug_rules.specs.State.{BookState}
 use Rattle.ug_book.specs.declared.opening.Opening.{Opening}
 use Rattle.ug_book.specs.Openings.{opening_book}
 use Rattle.ug_desk.specs.Entries.{IsLocked, LockedState}
-use Rattle.ug_threads.specs.Courses.{IsLedByWorkers}
+use Rattle.ug_threads.specs.Traces.{IsLedByWorkers}
 
 -- a history leads from what stood when the run began with the opening to this book, in which each
 -- pass has the calls of workers that have left

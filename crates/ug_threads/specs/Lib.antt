@@ -1,6 +1,6 @@
-pub mod Deeds
+pub mod Actions
 pub mod Lines
-pub mod Courses
+pub mod Traces
 pub mod Places
 pub mod Crews
 pub mod Rooms

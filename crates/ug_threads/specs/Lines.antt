@@ -1,4 +1,4 @@
--- A line of deeds of a worker at a desk, each with what stood when it was done.
+-- A line of actions of a worker at a desk, each with what stood when it was done.
 use Rattle.std.specs.Prelude.{◌≡◌, ℕ, ◌≤◌, false, List, [], ◌∷◌, ◌++◌, Ok, IfSome}
 use mathlib.Core.List.{IsPrefix}
 use Rattle.ug_ranks.specs.Looks.{is_alive}
@@ -10,24 +10,24 @@ use Rattle.ug_desk.specs.Histories.{Entry, stated}
 use Rattle.ug_desk.specs.Passes.{calls_of}
 use Rattle.ug_desk.specs.Words.{floor_of, word_at}
 use Rattle.ug_worker.specs.Renewals.{usual}
-use Rattle.ug_threads.specs.Deeds.{Away, Called, Deed, Does, EndedInVain, LeftInVain, Read, Sat, Stage}
+use Rattle.ug_threads.specs.Actions.{Away, Called, Action, NextState, EndedInVain, LeftInVain, Read, Sat, Stage}
 
--- the entries that the history has of the deeds of pass r, in order
-abbrev pub entries_in : ℕ → List Deed → List Entry
+-- the entries that the history has of the actions of pass r, in order
+abbrev pub entries_in : ℕ → List Action → List Entry
 entries_in r [] = []
 entries_in r (Called call ∷ past) = entries_in r past ++ record { pass = r; call = call } ∷ []
-entries_in r (deed ∷ past) = entries_in r past
+entries_in r (action ∷ past) = entries_in r past
 
 -- each cutoff that was read is at least this one, both as words
-abbrev pub AreReadAbove : Opening → ℕ → List Deed → Type 0
+abbrev pub AreReadAbove : Opening → ℕ → List Action → Type 0
 AreReadAbove o least [] = Unit {0}
 AreReadAbove o least (Read cutoff ∷ past) =
     (least ≤ word_at (floor_of o.problem) cutoff) × AreReadAbove o least past
-AreReadAbove o least (deed ∷ past) = AreReadAbove o least past
+AreReadAbove o least (action ∷ past) = AreReadAbove o least past
 
 -- this stood once: a history leads there from the opening, in which pass r has the calls of these
--- deeds and no other
-pub record HasStood (o : Opening) (r : ℕ) (past : List Deed) (history : List Entry)
+-- actions and no other
+pub record HasStood (o : Opening) (r : ℕ) (past : List Action) (history : List Entry)
     (l : LockedState) : Type 0 where
   pub began : l.opening ≡ o
   pub replayed : IsReplayed l history
@@ -36,7 +36,7 @@ pub record HasStood (o : Opening) (r : ℕ) (past : List Deed) (history : List E
 -- No cutoff that was read before is below the one that is replied. The end of a task is reported in
 -- vain if the task was not of the rank's ticket, and a worker leaves in vain if its rank was dead.
 -- A worker releases tasks by the program's rule, or never.
-abbrev pub IsInLine : Opening → ℕ → List Deed → Deed → Type 0
+abbrev pub IsInLine : Opening → ℕ → List Action → Action → Type 0
 IsInLine o r past (Sat renewal) = IfSome renewal (λ rule. rule ≡ usual)
 IsInLine o r past (Called (stated count low (Ok reply))) =
     AreReadAbove o (word_at (floor_of o.problem) reply.cutoff) past
@@ -44,18 +44,18 @@ IsInLine o r past (EndedInVain task history) =
     (l : LockedState) × HasStood o r past history l × ¬ IsOfTicket l.now.book r task
 IsInLine o r past (LeftInVain history) = (l : LockedState) × HasStood o r past history l
     × (is_alive (state_at l.now.book.ranks r) ≡ false)
-IsInLine o r past deed = Unit {0}
+IsInLine o r past action = Unit {0}
 
--- the deeds of pass r, the latest first, lead there from where nobody sits
-abbrev pub LeadTo : Opening → ℕ → List Deed → Stage → Type 0
+-- the actions of pass r, the latest first, lead there from where nobody sits
+abbrev pub LeadTo : Opening → ℕ → List Action → Stage → Type 0
 LeadTo o r [] now = now ≡ Away
-LeadTo o r (deed ∷ past) now =
-    (before : Stage) × LeadTo o r past before × Does before deed now × IsInLine o r past deed
+LeadTo o r (action ∷ past) now =
+    (before : Stage) × LeadTo o r past before × NextState before action now × IsInLine o r past action
 
--- the history named by each deed in vain is a prefix of this history
-abbrev pub AreWithin : List Entry → List Deed → Type 0
+-- the history named by each action in vain is a prefix of this history
+abbrev pub AreWithin : List Entry → List Action → Type 0
 AreWithin history [] = Unit {0}
 AreWithin history (EndedInVain task seen ∷ past) =
     IsPrefix seen history × AreWithin history past
 AreWithin history (LeftInVain seen ∷ past) = IsPrefix seen history × AreWithin history past
-AreWithin history (deed ∷ past) = AreWithin history past
+AreWithin history (action ∷ past) = AreWithin history past

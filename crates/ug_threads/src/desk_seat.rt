@@ -1,6 +1,6 @@
 ghost use Rattle.std.specs.Prelude.{◌≡◌, IfOk, OnErr};
 ghost use Rattle.ug_desk.specs.Passes.{lock_of_desk};
-ghost use Rattle.ug_threads.specs.Courses.{HasStayed};
+ghost use Rattle.ug_threads.specs.Traces.{HasStayed};
 
 use crate::pace::Pace;
 use crate::told::{answered, goes_on, told};
@@ -121,7 +121,7 @@ impl<'a, R, O> DeskSeat<'a, R, O> {
 
 impl<'a, R: Wait, O: Observer> Seat for DeskSeat<'a, R, O> {
     ghost use Rattle.std.specs.Prelude.{◌≡◌, Option};
-    ghost use Rattle.ug_threads.specs.Courses.{IsLeft, IsSeated};
+    ghost use Rattle.ug_threads.specs.Traces.{IsLeft, IsSeated};
 
     // The pass's own calls are those of a worker in this state.
     ghost at = { λ seat tally some. IsSeated seat.desk.now seat.pass seat.asked tally some };

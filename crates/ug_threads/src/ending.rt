@@ -5,7 +5,7 @@ ghost use Rattle.ug_rules.specs.State.{held_nodes};
 ghost use Rattle.ug_rules.specs.Books.{IsSoundBook};
 ghost use Rattle.ug_restart.specs.Outcomes.{IfBook};
 ghost use Rattle.ug_restart.specs.Outcomes.{HasFeasible, IfAnswered, IfLimited, IsLimited, IsRight, IsStranded};
-ghost use Rattle.ug_threads.specs.Courses.{IsLedByWorkers};
+ghost use Rattle.ug_threads.specs.Traces.{IsLedByWorkers};
 ghost use Rattle.ug_threads.specs.Ends.{IsEnding};
 
 use ug_book::Book;

@@ -20,7 +20,7 @@ use Rattle.ug_threads.specs.Ends.{IsReplayOf}
 use Rattle.ug_threads.proofs.Outcomes.{same_run}
 use Rattle.ug_coord.specs.Ends as over
 use Rattle.ug_coord.specs.Ends.{IsExactly, is_ended, ranks_of}
-use Rattle.ug_coord.specs.Hubs.{HasCoordinated, IsFresh}
+use Rattle.ug_coord.specs.Coordinators.{HasCoordinated, IsFresh}
 use Rattle.ug_coord.specs.Keeping.{AreEachSaved, HasKept, IsKeptSafe, IsNothing}
 use Rattle.ug_coord.proofs.Causes.{AreAlive}
 use Rattle.ug_coord.proofs.Ends.{nothing_coordinated}
@@ -93,7 +93,7 @@ solved_right law (Some was) None given end h unused trusted sound = absurd h
 solved_right law (Some was) (Some now) given end h unused trusted sound =
     let stays = law given was.faults h.now h.come h.made sound unused trusted in
     crew_right end h.now.book h.ended
-    (sound_last _ h.come.deeds h.now h.come.course stays.0) h.right
+    (sound_last _ h.come.actions h.now h.come.trace stays.0) h.right
 
 -- ---- what was said of a solve by a crew
 

@@ -22,8 +22,8 @@ use Rattle.ug_serve.specs.declared.served.Served.{Served}
 use Rattle.ug_serve.specs.declared.served.Served.TheVariants as service
 use Rattle.ug_serve.specs.Endings.{IsLost}
 use Rattle.ug_serve.specs.Serving.{HasServed}
-use Rattle.ug_serve.specs.Courses as links
-use Rattle.ug_coord.specs.Hubs as crews
+use Rattle.ug_serve.specs.Traces as links
+use Rattle.ug_coord.specs.Coordinators as crews
 use Rattle.clap.specs.Walk.{Text}
 use Rattle.ug_cli.specs.Taken.{TakenWords, needs_of}
 use Rattle.ug_cli.specs.declared.plan.Asked.{Asked}

@@ -10,11 +10,11 @@ use Rattle.ug_restart.specs.declared.outcome.End.{End}
 use Rattle.ug_restart.specs.Moments.{AllCovered}
 use Rattle.ug_restart.specs.Openings.{CoversWhatIsFound}
 use Rattle.ug_restart.specs.Outcomes.{IsStranded}
-use Rattle.ug_serve.specs.Staffs.{AreAlwaysWorked}
+use Rattle.ug_serve.specs.SimWorkers.{AreAlwaysWorked}
 use Rattle.ug_threads.specs.Outcomes.{HasEnded}
-use Rattle.ug_coord.specs.Deeds.{saves_in}
+use Rattle.ug_coord.specs.Actions.{saves_in}
 use Rattle.ug_coord.specs.Ends as ends
-use Rattle.ug_coord.specs.Hubs.{HasCoordinated, IsFresh}
+use Rattle.ug_coord.specs.Coordinators.{HasCoordinated, IsFresh}
 use Rattle.ug_world.specs.Coordinators.{IsHonestFrom}
 use Rattle.ug_top.specs.Outside.{seen_if}
 
@@ -59,7 +59,7 @@ abbrev pub counts_saves : (was now : Option CrewSeen) (given : BookState) (end :
 counts_saves None None given end solved Tried = Unit {0}
 counts_saves None (Some now) given end solved Tried = ⊥
 counts_saves (Some was) None given end solved Tried = ⊥
-counts_saves (Some was) (Some now) given end solved Tried = Tried (saves_in solved.come.deeds)
+counts_saves (Some was) (Some now) given end solved Tried = Tried (saves_in solved.come.actions)
 
 abbrev pub CountsSaves : (by : Crewed) (given : BookState) (end : End) → HasSolved by given end
     → (ℕ → Type 0) → Type 0

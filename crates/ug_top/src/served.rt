@@ -1,5 +1,5 @@
 ghost use Rattle.std.specs.Prelude.{◌≡◌, [], true, None, IsSomeAnd};
-ghost use Rattle.ug_serve.specs.Courses.{IsFresh};
+ghost use Rattle.ug_serve.specs.Traces.{IsFresh};
 ghost use Rattle.ug_top.specs.Ends.{AreWorkerLines, HasLinkFor, status_of, text_of};
 ghost use Rattle.ug_top.specs.Left.{best_of};
 ghost use Rattle.ug_top.specs.Outside.{seen_if};

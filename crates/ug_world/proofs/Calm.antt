@@ -1,4 +1,4 @@
--- That where no call of a crew of workers failed and memory was not wanting each deed is quiet.
+-- That where no call of a crew of workers failed and memory was not wanting each action is quiet.
 use Rattle.std.proofs.Common.{◌≡◌, ◌≢◌, inl, inr, ℕ, zero, suc, ◌-◌, ◌^◌, ◌<◌, ◌≤◌, true, false, List, [], ◌∷◌, ◌++◌, refl, sym, ap, subst, ◌∙◌, arith}
 use Rattle.std.specs.Prelude.{Contains, slice_index_or, slice_set}
 use Rattle.std.proofs.lemmas.Bool.{false≢true}
@@ -14,91 +14,91 @@ use Rattle.ug_rules.specs.declared.heard.Heard.TheVariants.{Memory}
 use Rattle.ug_rules.specs.State.{BookState}
 use Rattle.ug_rules.specs.Hearing.{is_deadly}
 use Rattle.ug_coord.specs.Causes.{HasCause, HasDeadlyAnswer, IsEndOf}
-use Rattle.ug_coord.specs.Deeds.{Broke, Came, Cause, Closed, Decided, Deed, Does, Ended, Failed, Halted, IsCause, IsCourse, Launched, Lost, Nonsense, Passed}
-use Rattle.ug_coord.specs.Deeds.{Sent, SetUp, HubState, Took, Unclosed, Unfed, Unread, Unsent, Unwritten, stream_at}
-use Rattle.ug_coord.specs.Deeds.{Kept as Saved}
+use Rattle.ug_coord.specs.Actions.{Broke, Came, Cause, Closed, Decided, Action, NextState, Ended, Failed, Halted, IsCause, IsTrace, Launched, Lost, Nonsense, Passed}
+use Rattle.ug_coord.specs.Actions.{Sent, SetUp, CoordinatorState, Took, Unclosed, Unfed, Unread, Unsent, Unwritten, stream_at}
+use Rattle.ug_coord.specs.Actions.{Kept as Saved}
 use Rattle.ug_coord.specs.Ends.{ranks_of}
-use Rattle.ug_coord.specs.Hubs.{HasCome, beginning}
-use Rattle.ug_coord.proofs.Coursing.{course_more}
-use Rattle.ug_coord.proofs.Faults.{course_up, faults_up}
-use Rattle.ug_serve.specs.Staffs.{AreAlwaysWorked}
+use Rattle.ug_coord.specs.Coordinators.{Reaches, beginning}
+use Rattle.ug_coord.proofs.Coursing.{trace_more}
+use Rattle.ug_coord.proofs.Faults.{trace_up, faults_up}
+use Rattle.ug_serve.specs.SimWorkers.{AreAlwaysWorked}
 use Rattle.ug_serve.proofs.Honesty.{nothing_in}
 use Rattle.ug_serve.proofs.Told.{first_or}
 use Rattle.ug_serve.proofs.Wires.{fed_fine}
-use Rattle.ug_world.specs.Calm.{IsCalmCourse}
+use Rattle.ug_world.specs.Calm.{IsCalmTrace}
 use Rattle.ug_world.specs.Workers.{IsUnused}
 use Rattle.ug_world.proofs.Readable.{never_bad}
 use Rattle.ug_world.proofs.Traffic.{IsRead, reports_from, traffic_is}
 use Rattle.ug_world.proofs.Worked.{none_read, none_waits, traffic}
 
--- with the deed no call fails, no bytes are bad and memory is not wanting
-abbrev pub IsQuietDeed : Deed → Type 0
-IsQuietDeed (Launched rank) = Unit {0}
-IsQuietDeed (SetUp rank bytes) = Unit {0}
-IsQuietDeed (Closed rank) = Unit {0}
-IsQuietDeed (Came rank bytes) = Unit {0}
-IsQuietDeed (Took rank report answer) = answer ≢ Memory
-IsQuietDeed (Lost rank cause) = ⊥
-IsQuietDeed Decided = Unit {0}
-IsQuietDeed (Sent rank order) = Unit {0}
-IsQuietDeed (Unsent rank order) = ⊥
-IsQuietDeed (Passed rank order) = Unit {0}
-IsQuietDeed Broke = ⊥
-IsQuietDeed (Unclosed rank) = ⊥
-IsQuietDeed (Halted steps) = ⊥
-IsQuietDeed (Unwritten rank order) = ⊥
-IsQuietDeed (Unfed rank bytes) = ⊥
-IsQuietDeed Unread = ⊥
-IsQuietDeed Saved = Unit {0}
+-- with the action no call fails, no bytes are bad and memory is not wanting
+abbrev pub IsQuietAction : Action → Type 0
+IsQuietAction (Launched rank) = Unit {0}
+IsQuietAction (SetUp rank bytes) = Unit {0}
+IsQuietAction (Closed rank) = Unit {0}
+IsQuietAction (Came rank bytes) = Unit {0}
+IsQuietAction (Took rank report answer) = answer ≢ Memory
+IsQuietAction (Lost rank cause) = ⊥
+IsQuietAction Decided = Unit {0}
+IsQuietAction (Sent rank order) = Unit {0}
+IsQuietAction (Unsent rank order) = ⊥
+IsQuietAction (Passed rank order) = Unit {0}
+IsQuietAction Broke = ⊥
+IsQuietAction (Unclosed rank) = ⊥
+IsQuietAction (Halted steps) = ⊥
+IsQuietAction (Unwritten rank order) = ⊥
+IsQuietAction (Unfed rank bytes) = ⊥
+IsQuietAction Unread = ⊥
+IsQuietAction Saved = Unit {0}
 
-abbrev pub AreQuiet : List Deed → Type 0
-AreQuiet deeds = (deed : Deed) → Contains deeds deed → IsQuietDeed deed
+abbrev pub AreQuiet : List Action → Type 0
+AreQuiet actions = (action : Action) → Contains actions action → IsQuietAction action
 
 -- ---- if memory ran out it is
 
-wanted : (old new : HubState) → new.wants ≡ true → new.wants ≡ false → old.wants ≡ false
+wanted : (old new : CoordinatorState) → new.wants ≡ true → new.wants ≡ false → old.wants ≡ false
 wanted old new is none = absurd (false≢true (sym none ∙ is))
 
-wants_back : (old : HubState) (deed : Deed) (new : HubState) → Does old deed new → new.wants ≡ false
+wants_back : (old : CoordinatorState) (action : Action) (new : CoordinatorState) → NextState old action new → new.wants ≡ false
     → old.wants ≡ false
-wants_back old (Launched rank) new does none = sym (ap (λ (s : HubState). s.wants) does.1) ∙ none
-wants_back old (SetUp rank bytes) new does none = sym (ap (λ (s : HubState). s.wants) does.rest) ∙ none
-wants_back old (Closed rank) new does none = sym (ap (λ (s : HubState). s.wants) does.rest) ∙ none
-wants_back old (Came rank bytes) new does none = sym (ap (λ (s : HubState). s.wants) does.rest) ∙ none
+wants_back old (Launched rank) new does none = sym (ap (λ (s : CoordinatorState). s.wants) does.1) ∙ none
+wants_back old (SetUp rank bytes) new does none = sym (ap (λ (s : CoordinatorState). s.wants) does.rest) ∙ none
+wants_back old (Closed rank) new does none = sym (ap (λ (s : CoordinatorState). s.wants) does.rest) ∙ none
+wants_back old (Came rank bytes) new does none = sym (ap (λ (s : CoordinatorState). s.wants) does.rest) ∙ none
 wants_back old (Took rank report answer) new does none = does.wants.before none
 wants_back old (Lost rank cause) new does none = sym does.wants ∙ none
-wants_back old Decided new does none = sym (ap (λ (s : HubState). s.wants) does.rest) ∙ none
-wants_back old (Sent rank order) new does none = sym (ap (λ (s : HubState). s.wants) does.rest) ∙ none
-wants_back old (Unsent rank order) new does none = sym (ap (λ (s : HubState). s.wants) does.rest) ∙ none
-wants_back old (Passed rank order) new does none = sym (ap (λ (s : HubState). s.wants) does.rest) ∙ none
-wants_back old Broke new does none = sym (ap (λ (s : HubState). s.wants) does.rest) ∙ none
-wants_back old (Unclosed rank) new does none = sym (ap (λ (s : HubState). s.wants) does.rest) ∙ none
-wants_back old (Halted steps) new does none = wanted old new (ap (λ (s : HubState). s.wants) does.rest) none
+wants_back old Decided new does none = sym (ap (λ (s : CoordinatorState). s.wants) does.rest) ∙ none
+wants_back old (Sent rank order) new does none = sym (ap (λ (s : CoordinatorState). s.wants) does.rest) ∙ none
+wants_back old (Unsent rank order) new does none = sym (ap (λ (s : CoordinatorState). s.wants) does.rest) ∙ none
+wants_back old (Passed rank order) new does none = sym (ap (λ (s : CoordinatorState). s.wants) does.rest) ∙ none
+wants_back old Broke new does none = sym (ap (λ (s : CoordinatorState). s.wants) does.rest) ∙ none
+wants_back old (Unclosed rank) new does none = sym (ap (λ (s : CoordinatorState). s.wants) does.rest) ∙ none
+wants_back old (Halted steps) new does none = wanted old new (ap (λ (s : CoordinatorState). s.wants) does.rest) none
 wants_back old (Unwritten rank order) new does none =
-    wanted old new (ap (λ (s : HubState). s.wants) does.rest) none
-wants_back old (Unfed rank bytes) new does none = wanted old new (ap (λ (s : HubState). s.wants) does.rest) none
-wants_back old Unread new does none = wanted old new (ap (λ (s : HubState). s.wants) does.1) none
-wants_back old Saved new does none = sym (ap (λ (s : HubState). s.wants) does.rest) ∙ none
+    wanted old new (ap (λ (s : CoordinatorState). s.wants) does.rest) none
+wants_back old (Unfed rank bytes) new does none = wanted old new (ap (λ (s : CoordinatorState). s.wants) does.rest) none
+wants_back old Unread new does none = wanted old new (ap (λ (s : CoordinatorState). s.wants) does.1) none
+wants_back old Saved new does none = sym (ap (λ (s : CoordinatorState). s.wants) does.rest) ∙ none
 
-course_wants : (old : HubState) (deeds : List Deed) (new : HubState) → IsCourse old deeds new → new.wants ≡ false
+trace_wants : (old : CoordinatorState) (actions : List Action) (new : CoordinatorState) → IsTrace old actions new → new.wants ≡ false
     → old.wants ≡ false
-course_wants old [] new same none = sym (ap (λ (s : HubState). s.wants) same) ∙ none
-course_wants old (deed ∷ deeds) new (mid, does, more) none =
-    wants_back old deed mid does (course_wants mid deeds new more none)
+trace_wants old [] new same none = sym (ap (λ (s : CoordinatorState). s.wants) same) ∙ none
+trace_wants old (action ∷ actions) new (mid, does, more) none =
+    wants_back old action mid does (trace_wants mid actions new more none)
 
--- ---- what was so before each deed
+-- ---- what was so before each action
 
 -- no turn failed, and no stream is shut or bad
-record IsFine (s : HubState) : Type 0 where
+record IsFine (s : CoordinatorState) : Type 0 where
   whole : s.broken ≡ false
   streams : (rank : ℕ) → (stream_at s rank).bad ≡ false
 
 -- the bytes that wait of a rank can be read
-abbrev IsReadable : HubState → Type 0
+abbrev IsReadable : CoordinatorState → Type 0
 IsReadable s = (rank : ℕ) → IsDecoded reports.IsCarried reports.spelled (stream_at s rank).bytes Bad → ⊥
 
 -- no fault came, and memory is not wanting
-record IsCalmDeed (old new : HubState) : Type 0 where
+record IsCalmAction (old new : CoordinatorState) : Type 0 where
   small : old.faults < 2 ^ 64 - 1
   calm : new.faults ≤ old.faults
   memory : new.wants ≡ false
@@ -116,14 +116,14 @@ set_fine (s ∷ streams) (suc at) w zero fine was = was
 set_fine (s ∷ streams) (suc at) w (suc rank) fine was = set_fine streams at w rank fine was
 
 -- nothing came
-still_fine : (old new : HubState) → new.broken ≡ old.broken → new.streams ≡ old.streams → IsFine old → IsFine new
+still_fine : (old new : CoordinatorState) → new.broken ≡ old.broken → new.streams ≡ old.streams → IsFine old → IsFine new
 still_fine old new broken streams fine = record {
   whole = broken ∙ fine.whole;
   streams = λ rank. ap (λ (l : List Waiting). (slice_index_or l rank first).bad) streams ∙ fine.streams rank;
 }
 
 -- a stream was set
-set_still : (old new : HubState) (at : ℕ) (w : Waiting) → new.broken ≡ old.broken
+set_still : (old new : CoordinatorState) (at : ℕ) (w : Waiting) → new.broken ≡ old.broken
     → new.streams ≡ slice_set old.streams at w → w.bad ≡ false → IsFine old → IsFine new
 set_still old new at w broken streams good fine = record {
   whole = broken ∙ fine.whole;
@@ -131,7 +131,7 @@ set_still old new at w broken streams good fine = record {
       ∙ set_fine old.streams at w rank good (fine.streams rank);
 }
 
-none_lost : (old new : HubState) (rank : ℕ) (cause : Cause) → IsCause old new rank cause → IsCalmDeed old new
+none_lost : (old new : CoordinatorState) (rank : ℕ) (cause : Cause) → IsCause old new rank cause → IsCalmAction old new
     → IsReadable old → IsFine old → ⊥
 none_lost old new rank Ended is c readable fine = no_rise old.faults new.faults c.small c.calm is.faults
 none_lost old new rank Failed is c readable fine = elim is.1 [
@@ -143,76 +143,76 @@ none_lost old new rank Nonsense is c readable fine = elim is.bad.bad [
   | inr bad ↦ readable rank bad
 ]
 
--- the deed is quiet, and all is fine behind it
-abbrev GoesOn : Deed → HubState → Type 0
-GoesOn deed new = IsQuietDeed deed × IsFine new
+-- the action is quiet, and all is fine behind it
+abbrev GoesOn : Action → CoordinatorState → Type 0
+GoesOn action new = IsQuietAction action × IsFine new
 
-goes_on : (old : HubState) (deed : Deed) (new : HubState) → Does old deed new → IsCalmDeed old new
-    → IsReadable old → IsFine old → GoesOn deed new
+goes_on : (old : CoordinatorState) (action : Action) (new : CoordinatorState) → NextState old action new → IsCalmAction old new
+    → IsReadable old → IsFine old → GoesOn action new
 goes_on old (Launched rank) new does c readable fine =
-    (tt, still_fine old new (ap (λ (s : HubState). s.broken) does.1) (ap (λ (s : HubState). s.streams) does.1) fine)
+    (tt, still_fine old new (ap (λ (s : CoordinatorState). s.broken) does.1) (ap (λ (s : CoordinatorState). s.streams) does.1) fine)
 goes_on old (SetUp rank bytes) new does c readable fine = (
   tt,
-  still_fine old new (ap (λ (s : HubState). s.broken) does.rest) (ap (λ (s : HubState). s.streams) does.rest) fine,
+  still_fine old new (ap (λ (s : CoordinatorState). s.broken) does.rest) (ap (λ (s : CoordinatorState). s.streams) does.rest) fine,
 )
 goes_on old (Closed rank) new does c readable fine = (
   tt,
-  still_fine old new (ap (λ (s : HubState). s.broken) does.rest) (ap (λ (s : HubState). s.streams) does.rest) fine,
+  still_fine old new (ap (λ (s : CoordinatorState). s.broken) does.rest) (ap (λ (s : CoordinatorState). s.streams) does.rest) fine,
 )
 goes_on old (Came rank bytes) new does c readable fine = (
   tt,
-  set_still old new rank (fed (stream_at old rank) bytes) (ap (λ (s : HubState). s.broken) does.rest)
-      (ap (λ (s : HubState). s.streams) does.rest) (fed_fine (stream_at old rank) bytes (fine.streams rank)) fine,
+  set_still old new rank (fed (stream_at old rank) bytes) (ap (λ (s : CoordinatorState). s.broken) does.rest)
+      (ap (λ (s : CoordinatorState). s.streams) does.rest) (fed_fine (stream_at old rank) bytes (fine.streams rank)) fine,
 )
 goes_on old (Took rank report answer) new does c readable fine = (
   does.wants.now c.memory,
-  set_still old new rank does.stream (ap (λ (s : HubState). s.broken) does.rest)
-      (ap (λ (s : HubState). s.streams) does.rest) does.given.still fine,
+  set_still old new rank does.stream (ap (λ (s : CoordinatorState). s.broken) does.rest)
+      (ap (λ (s : CoordinatorState). s.streams) does.rest) does.given.still fine,
 )
 goes_on old (Lost rank cause) new does c readable fine =
     absurd (none_lost old new rank cause does.why c readable fine)
 goes_on old Decided new does c readable fine = (
   tt,
-  still_fine old new (ap (λ (s : HubState). s.broken) does.rest) (ap (λ (s : HubState). s.streams) does.rest) fine,
+  still_fine old new (ap (λ (s : CoordinatorState). s.broken) does.rest) (ap (λ (s : CoordinatorState). s.streams) does.rest) fine,
 )
 goes_on old (Sent rank order) new does c readable fine = (
   tt,
-  still_fine old new (ap (λ (s : HubState). s.broken) does.rest) (ap (λ (s : HubState). s.streams) does.rest) fine,
+  still_fine old new (ap (λ (s : CoordinatorState). s.broken) does.rest) (ap (λ (s : CoordinatorState). s.streams) does.rest) fine,
 )
 goes_on old (Unsent rank order) new does c readable fine =
     absurd (no_rise old.faults new.faults c.small c.calm does.faults)
 goes_on old (Passed rank order) new does c readable fine = (
   tt,
-  still_fine old new (ap (λ (s : HubState). s.broken) does.rest) (ap (λ (s : HubState). s.streams) does.rest) fine,
+  still_fine old new (ap (λ (s : CoordinatorState). s.broken) does.rest) (ap (λ (s : CoordinatorState). s.streams) does.rest) fine,
 )
 goes_on old Broke new does c readable fine = absurd (no_rise old.faults new.faults c.small c.calm does.faults)
 goes_on old (Unclosed rank) new does c readable fine =
     absurd (no_rise old.faults new.faults c.small c.calm does.faults)
 goes_on old (Halted steps) new does c readable fine =
-    absurd (false≢true (sym c.memory ∙ ap (λ (s : HubState). s.wants) does.rest))
+    absurd (false≢true (sym c.memory ∙ ap (λ (s : CoordinatorState). s.wants) does.rest))
 goes_on old (Unwritten rank order) new does c readable fine =
-    absurd (false≢true (sym c.memory ∙ ap (λ (s : HubState). s.wants) does.rest))
+    absurd (false≢true (sym c.memory ∙ ap (λ (s : CoordinatorState). s.wants) does.rest))
 goes_on old (Unfed rank bytes) new does c readable fine =
-    absurd (false≢true (sym c.memory ∙ ap (λ (s : HubState). s.wants) does.rest))
+    absurd (false≢true (sym c.memory ∙ ap (λ (s : CoordinatorState). s.wants) does.rest))
 goes_on old Unread new does c readable fine =
-    absurd (false≢true (sym c.memory ∙ ap (λ (s : HubState). s.wants) does.1))
+    absurd (false≢true (sym c.memory ∙ ap (λ (s : CoordinatorState). s.wants) does.1))
 goes_on old Saved new does c readable fine =
-    (tt, still_fine old new (ap (λ (s : HubState). s.broken) does.rest) (ap (λ (s : HubState). s.streams) does.rest) fine)
+    (tt, still_fine old new (ap (λ (s : CoordinatorState). s.broken) does.rest) (ap (λ (s : CoordinatorState). s.streams) does.rest) fine)
 
 -- ---- a course
 
 none_quiet : AreQuiet []
-none_quiet deed there = absurd (nothing_in deed there)
+none_quiet action there = absurd (nothing_in action there)
 
-quiet_more : (deed : Deed) (deeds : List Deed) → IsQuietDeed deed → AreQuiet deeds → AreQuiet (deed ∷ deeds)
-quiet_more deed deeds is all one there = elim (first_or deed deeds one there) [
-  | inl same ↦ subst IsQuietDeed same is
+quiet_more : (action : Action) (actions : List Action) → IsQuietAction action → AreQuiet actions → AreQuiet (action ∷ actions)
+quiet_more action actions is all one there = elim (first_or action actions one there) [
+  | inl same ↦ subst IsQuietAction same is
   | inr later ↦ all one later
 ]
 
 module _ (b : BookState) (faults : ℕ) (unused : IsUnused b) (said : List Exchange)
     (worked : AreAlwaysWorked said) where
-  readable : (done : List Deed) (s : HubState) → IsCourse (beginning b faults) done s → (more : List Exchange)
+  readable : (done : List Action) (s : CoordinatorState) → IsTrace (beginning b faults) done s → (more : List Exchange)
       → said ≡ s.said ++ more → IsFine s → IsReadable s
   readable done s so more same fine rank bad =
       let read : IsRead rank s (reports_from rank done) =
@@ -221,52 +221,52 @@ module _ (b : BookState) (faults : ℕ) (unused : IsUnused b) (said : List Excha
       (subst (λ (bytes : List ℕ). IsDecoded reports.IsCarried reports.spelled bytes Bad)
       (sym (read.waits (fine.streams rank))) bad)
 
-  all_quiet : (done : List Deed) (old : HubState) (deeds : List Deed) (new : HubState)
-      → IsCourse (beginning b faults) done old → IsCourse old deeds new → said ≡ new.said
-      → old.faults < 2 ^ 64 - 1 → new.faults ≤ old.faults → new.wants ≡ false → IsFine old → AreQuiet deeds
+  all_quiet : (done : List Action) (old : CoordinatorState) (actions : List Action) (new : CoordinatorState)
+      → IsTrace (beginning b faults) done old → IsTrace old actions new → said ≡ new.said
+      → old.faults < 2 ^ 64 - 1 → new.faults ≤ old.faults → new.wants ≡ false → IsFine old → AreQuiet actions
   all_quiet done old [] new so same ends small calm memory fine = none_quiet
-  all_quiet done old (deed ∷ deeds) new so (mid, does, rest) ends small calm memory fine =
-      let so_far = course_more (beginning b faults) done old mid deed so does in
+  all_quiet done old (action ∷ actions) new so (mid, does, rest) ends small calm memory fine =
+      let so_far = trace_more (beginning b faults) done old mid action so does in
       let here = traffic b faults unused done old so 0 in
-      let later = traffic_is old.book.settings.gap 0 old (deed ∷ deeds) new refl here.fit (mid, does, rest) in
-      let up = faults_up old deed mid does in
-      let on = course_up mid deeds new rest in
-      let goes = goes_on old deed mid does
+      let later = traffic_is old.book.settings.gap 0 old (action ∷ actions) new refl here.fit (mid, does, rest) in
+      let up = faults_up old action mid does in
+      let on = trace_up mid actions new rest in
+      let goes = goes_on old action mid does
       (record {
         small = small;
         calm = omega (arith, on, calm);
-        memory = course_wants mid deeds new rest memory;
+        memory = trace_wants mid actions new rest memory;
       })
       (readable done old so later.more (ends ∙ later.grown) fine) fine in
-      quiet_more deed deeds goes.0
-      (all_quiet (done ++ deed ∷ []) mid deeds new so_far rest ends (omega (arith, small, on, calm))
+      quiet_more action actions goes.0
+      (all_quiet (done ++ action ∷ []) mid actions new so_far rest ends (omega (arith, small, on, calm))
       (omega (arith, up, calm)) memory goes.1)
 
--- what takes a rank for gone in a quiet deed is an answer
-by_answer : (rank : ℕ) (deeds : List Deed) (deed : Deed) → Contains deeds deed → IsEndOf rank deed
-    → IsQuietDeed deed → HasDeadlyAnswer rank deeds
-by_answer rank deeds (Launched other) among ends quiet = absurd ends
-by_answer rank deeds (SetUp other bytes) among ends quiet = absurd ends
-by_answer rank deeds (Closed other) among ends quiet = absurd ends
-by_answer rank deeds (Came other bytes) among ends quiet = absurd ends
-by_answer rank deeds (Took other report answer) among ends quiet = record {
+-- what takes a rank for gone in a quiet action is an answer
+by_answer : (rank : ℕ) (actions : List Action) (action : Action) → Contains actions action → IsEndOf rank action
+    → IsQuietAction action → HasDeadlyAnswer rank actions
+by_answer rank actions (Launched other) among ends quiet = absurd ends
+by_answer rank actions (SetUp other bytes) among ends quiet = absurd ends
+by_answer rank actions (Closed other) among ends quiet = absurd ends
+by_answer rank actions (Came other bytes) among ends quiet = absurd ends
+by_answer rank actions (Took other report answer) among ends quiet = record {
   report = report;
   answer = answer;
-  among = subst (λ (r : ℕ). Contains deeds (Took r report answer)) ends.0 among;
+  among = subst (λ (r : ℕ). Contains actions (Took r report answer)) ends.0 among;
   deadly = ends.1;
 }
-by_answer rank deeds (Lost other cause) among ends quiet = absurd quiet
-by_answer rank deeds Decided among ends quiet = absurd ends
-by_answer rank deeds (Sent other order) among ends quiet = absurd ends
-by_answer rank deeds (Unsent other order) among ends quiet = absurd quiet
-by_answer rank deeds (Passed other order) among ends quiet = absurd ends
-by_answer rank deeds Broke among ends quiet = absurd ends
-by_answer rank deeds (Unclosed other) among ends quiet = absurd ends
-by_answer rank deeds (Halted steps) among ends quiet = absurd ends
-by_answer rank deeds (Unwritten other order) among ends quiet = absurd ends
-by_answer rank deeds (Unfed other bytes) among ends quiet = absurd ends
-by_answer rank deeds Unread among ends quiet = absurd ends
-by_answer rank deeds Saved among ends quiet = absurd ends
+by_answer rank actions (Lost other cause) among ends quiet = absurd quiet
+by_answer rank actions Decided among ends quiet = absurd ends
+by_answer rank actions (Sent other order) among ends quiet = absurd ends
+by_answer rank actions (Unsent other order) among ends quiet = absurd quiet
+by_answer rank actions (Passed other order) among ends quiet = absurd ends
+by_answer rank actions Broke among ends quiet = absurd ends
+by_answer rank actions (Unclosed other) among ends quiet = absurd ends
+by_answer rank actions (Halted steps) among ends quiet = absurd ends
+by_answer rank actions (Unwritten other order) among ends quiet = absurd ends
+by_answer rank actions (Unfed other bytes) among ends quiet = absurd ends
+by_answer rank actions Unread among ends quiet = absurd ends
+by_answer rank actions Saved among ends quiet = absurd ends
 
 fine_first : (b : BookState) (faults : ℕ) → IsFine (beginning b faults)
 fine_first b faults = record {
@@ -274,13 +274,13 @@ fine_first b faults = record {
   streams = λ rank. ap (λ (w : Waiting). w.bad) (none_waits (ranks_of b) rank);
 }
 
-pub course_quiet : (b : BookState) (faults : ℕ) (now : HubState) (come : HasCome (beginning b faults) now)
-    → IsCalmCourse b faults now → AreQuiet come.deeds
-course_quiet b faults now come c =
-    all_quiet b faults c.unused now.said c.worked [] (beginning b faults) come.deeds now refl come.course refl
+pub trace_quiet : (b : BookState) (faults : ℕ) (now : CoordinatorState) (come : Reaches (beginning b faults) now)
+    → IsCalmTrace b faults now → AreQuiet come.actions
+trace_quiet b faults now come c =
+    all_quiet b faults c.unused now.said c.worked [] (beginning b faults) come.actions now refl come.trace refl
     c.calm.small (omega (arith, c.calm.same)) c.memory (fine_first b faults)
 
-pub answer_of_cause : (rank : ℕ) (deeds : List Deed) → AreQuiet deeds → HasCause rank deeds
-    → HasDeadlyAnswer rank deeds
-answer_of_cause rank deeds quiet cause =
-    by_answer rank deeds cause.deed cause.among cause.ends (quiet cause.deed cause.among)
+pub answer_of_cause : (rank : ℕ) (actions : List Action) → AreQuiet actions → HasCause rank actions
+    → HasDeadlyAnswer rank actions
+answer_of_cause rank actions quiet cause =
+    by_answer rank actions cause.action cause.among cause.ends (quiet cause.action cause.among)

@@ -15,16 +15,16 @@ use Rattle.ug_rules.specs.Hearing.{IsHearable}
 use Rattle.ug_rules.specs.HearingLaws.{HasRisingChanges}
 use Rattle.ug_rules.specs.Deaths.{killed}
 use Rattle.ug_book.specs.Reads.{IsOrderTold}
-use Rattle.ug_coord.specs.Deeds.{AreSound, Broke, Came, Closed, Decided, Deed, Does, Halted, IsCourse, Launched, Lost, Passed}
-use Rattle.ug_coord.specs.Deeds.{Sent, SetUp, HubState, Took, Unclosed, Unfed, Unread, Unsent, Unwritten, IsTaken, IsUnsent}
-use Rattle.ug_coord.specs.Deeds.{Kept as Saved}
-use Rattle.ug_coord.specs.Hubs.{beginning}
+use Rattle.ug_coord.specs.Actions.{AreSound, Broke, Came, Closed, Decided, Action, NextState, Halted, IsTrace, Launched, Lost, Passed}
+use Rattle.ug_coord.specs.Actions.{Sent, SetUp, CoordinatorState, Took, Unclosed, Unfed, Unread, Unsent, Unwritten, IsTaken, IsUnsent}
+use Rattle.ug_coord.specs.Actions.{Kept as Saved}
+use Rattle.ug_coord.specs.Coordinators.{beginning}
 use Rattle.ug_world.specs.declared.event.Event.TheVariants.{Send, Hear, Gone, Decide, Tell}
 use Rattle.ug_world.specs.Worlds.{World, opening, told_first}
 use Rattle.ug_world.specs.Honest.{IsGivenWith}
 use Rattle.ug_world.specs.Laws.{LosesNothing}
 use Rattle.ug_world.specs.Coordinators.{CoordinatorsLoseNothing, IsHonestSo, Past, StaysHonest, after, honest_at, nothing, with_order, with_report}
-use Rattle.ug_world.proofs.Courses.{Holds, event_holds, loses_nothing, unused_holds}
+use Rattle.ug_world.proofs.Traces.{Holds, event_holds, loses_nothing, unused_holds}
 use Rattle.ug_world.proofs.Trusted.{AreTrue, honest_true, unused_true}
 
 -- the world that this is
@@ -63,7 +63,7 @@ last_there [] report = refl
 last_there (first ∷ sent) report = last_there sent report
 
 -- it comes, and is received
-took : (n : ℕ) (old mid : HubState) (past : Past) (rank : ℕ) (report : Report) (answer : Heard)
+took : (n : ℕ) (old mid : CoordinatorState) (past : Past) (rank : ℕ) (report : Report) (answer : Heard)
     → IsTaken old mid rank report answer → IsHonestSo old.book past.told (past.heard ++ report ∷ [])
     → Keeps n old.book past → Holds n (world_of mid.book (with_report past report answer))
 took n old mid past rank report answer t honest k =
@@ -79,7 +79,7 @@ took n old mid past rank report answer t honest k =
       there = last_there past.heard report;
       rising = rising report t.given.carried.can;
       due = t.due;
-      done = ap (λ (s : HubState). world_of s.book (with_report past report answer)) t.rest;
+      done = ap (λ (s : CoordinatorState). world_of s.book (with_report past report answer)) t.rest;
     }) true_ first
 
 -- ---- orders
@@ -113,7 +113,7 @@ gone n old new past rank there dead true_ holds =
     (ap (λ (b : BookState). world_of b past) dead) true_ holds
 
 -- the rank of an order that could not be sent
-unsent : (n : ℕ) (old mid : HubState) (past : Past) (rank : ℕ) (order : Order) → IsUnsent old mid rank order
+unsent : (n : ℕ) (old mid : CoordinatorState) (past : Past) (rank : ℕ) (order : Order) → IsUnsent old mid rank order
     → IsHonestSo old.book past.told past.heard → Keeps n old.book past
     → Holds n (world_of mid.book (with_order past (record { rank = rank; order = order })))
 unsent n old mid past rank order t honest k =
@@ -123,68 +123,68 @@ unsent n old mid past rank order t honest k =
     (left_honest old.book t.without past told t.told honest) first.known in
     gone n t.without mid.book (with_order past told) rank
     (omega (arith, t.there, ap (λ (b : BookState). length b.ranks) t.told.rest))
-    (ap (λ (s : HubState). s.book) t.rest) true_ first
+    (ap (λ (s : CoordinatorState). s.book) t.rest) true_ first
 
--- ---- each deed
+-- ---- each action
 
 same_holds : (n : ℕ) (old new : BookState) (past : Past) → new ≡ old → Keeps n old past
     → Holds n (world_of new past)
 same_holds n old new past same k = (same_book n old new past same k).holds
 
-deed_holds : (n : ℕ) (old mid : HubState) (past : Past) (deed : Deed) → Does old deed mid
-    → honest_at old past deed → IsHonestSo old.book past.told past.heard → Keeps n old.book past
-    → Holds n (world_of mid.book (after deed past))
-deed_holds n old mid past (Launched rank) (away, rest) now honest k =
-    same_holds n old.book mid.book past (ap (λ (s : HubState). s.book) rest) k
-deed_holds n old mid past (SetUp rank bytes) does now honest k =
-    same_holds n old.book mid.book past (ap (λ (s : HubState). s.book) does.rest) k
-deed_holds n old mid past (Closed rank) does now honest k =
-    same_holds n old.book mid.book past (ap (λ (s : HubState). s.book) does.rest) k
-deed_holds n old mid past (Came rank bytes) does now honest k =
-    same_holds n old.book mid.book past (ap (λ (s : HubState). s.book) does.rest) k
-deed_holds n old mid past (Took rank report answer) does now honest k =
+action_holds : (n : ℕ) (old mid : CoordinatorState) (past : Past) (action : Action) → NextState old action mid
+    → honest_at old past action → IsHonestSo old.book past.told past.heard → Keeps n old.book past
+    → Holds n (world_of mid.book (after action past))
+action_holds n old mid past (Launched rank) (away, rest) now honest k =
+    same_holds n old.book mid.book past (ap (λ (s : CoordinatorState). s.book) rest) k
+action_holds n old mid past (SetUp rank bytes) does now honest k =
+    same_holds n old.book mid.book past (ap (λ (s : CoordinatorState). s.book) does.rest) k
+action_holds n old mid past (Closed rank) does now honest k =
+    same_holds n old.book mid.book past (ap (λ (s : CoordinatorState). s.book) does.rest) k
+action_holds n old mid past (Came rank bytes) does now honest k =
+    same_holds n old.book mid.book past (ap (λ (s : CoordinatorState). s.book) does.rest) k
+action_holds n old mid past (Took rank report answer) does now honest k =
     took n old mid past rank report answer does now k
-deed_holds n old mid past (Lost rank cause) does now honest k =
+action_holds n old mid past (Lost rank cause) does now honest k =
     gone n old.book mid.book past rank does.there does.book k.true_ k.holds
-deed_holds n old mid past Decided does now honest k =
+action_holds n old mid past Decided does now honest k =
     event_holds n (world_of old.book past) (world_of mid.book past) Decide tt
     (record { decided = inl does.is; rest = refl }) k.true_ k.holds
-deed_holds n old mid past (Sent rank order) does now honest k =
+action_holds n old mid past (Sent rank order) does now honest k =
     left n old.book mid.book past (record { rank = rank; order = order }) does.told k
-deed_holds n old mid past (Unsent rank order) does now honest k =
+action_holds n old mid past (Unsent rank order) does now honest k =
     unsent n old mid past rank order does honest k
-deed_holds n old mid past (Passed rank order) does now honest k =
+action_holds n old mid past (Passed rank order) does now honest k =
     left n old.book mid.book past (record { rank = rank; order = order }) does.told k
-deed_holds n old mid past Broke does now honest k =
-    same_holds n old.book mid.book past (ap (λ (s : HubState). s.book) does.rest) k
-deed_holds n old mid past (Unclosed rank) does now honest k =
-    same_holds n old.book mid.book past (ap (λ (s : HubState). s.book) does.rest) k
-deed_holds n old mid past (Halted steps) does now honest k =
+action_holds n old mid past Broke does now honest k =
+    same_holds n old.book mid.book past (ap (λ (s : CoordinatorState). s.book) does.rest) k
+action_holds n old mid past (Unclosed rank) does now honest k =
+    same_holds n old.book mid.book past (ap (λ (s : CoordinatorState). s.book) does.rest) k
+action_holds n old mid past (Halted steps) does now honest k =
     event_holds n (world_of old.book past) (world_of mid.book past) Decide tt
     (record { decided = inr (record { steps = steps; stands = does.is }); rest = refl }) k.true_ k.holds
-deed_holds n old mid past (Unwritten rank order) does now honest k =
+action_holds n old mid past (Unwritten rank order) does now honest k =
     left n old.book mid.book past (record { rank = rank; order = order }) does.told k
-deed_holds n old mid past (Unfed rank bytes) does now honest k =
-    same_holds n old.book mid.book past (ap (λ (s : HubState). s.book) does.rest) k
-deed_holds n old mid past Unread (reading, rest) now honest k =
-    same_holds n old.book mid.book past (ap (λ (s : HubState). s.book) rest) k
-deed_holds n old mid past Saved does now honest k =
-    same_holds n old.book mid.book past (ap (λ (s : HubState). s.book) does.rest) k
+action_holds n old mid past (Unfed rank bytes) does now honest k =
+    same_holds n old.book mid.book past (ap (λ (s : CoordinatorState). s.book) does.rest) k
+action_holds n old mid past Unread (reading, rest) now honest k =
+    same_holds n old.book mid.book past (ap (λ (s : CoordinatorState). s.book) rest) k
+action_holds n old mid past Saved does now honest k =
+    same_holds n old.book mid.book past (ap (λ (s : CoordinatorState). s.book) does.rest) k
 
-course_keeps : (n : ℕ) (old : HubState) (past : Past) (deeds : List Deed) (new : HubState)
-    → (course : IsCourse old deeds new) → StaysHonest old past deeds new course
+trace_keeps : (n : ℕ) (old : CoordinatorState) (past : Past) (actions : List Action) (new : CoordinatorState)
+    → (trace : IsTrace old actions new) → StaysHonest old past actions new trace
     → IsHonestSo old.book past.told past.heard → Keeps n old.book past
-    → AreSound old deeds new course × LosesNothing new.book
-course_keeps n old past [] new same stays honest k = (
+    → AreSound old actions new trace × LosesNothing new.book
+trace_keeps n old past [] new same stays honest k = (
   k.holds.sound,
-  subst (λ (s : HubState). LosesNothing s.book) (sym same) (loses_nothing old.book k.holds.sound),
+  subst (λ (s : CoordinatorState). LosesNothing s.book) (sym same) (loses_nothing old.book k.holds.sound),
 )
-course_keeps n old past (deed ∷ deeds) new (mid, does, more) (now, rest) honest k =
-    let holds = deed_holds n old mid past deed does now honest k in
-    let all = course_keeps n mid (after deed past) deeds new more rest.1 rest.0
+trace_keeps n old past (action ∷ actions) new (mid, does, more) (now, rest) honest k =
+    let holds = action_holds n old mid past action does now honest k in
+    let all = trace_keeps n mid (after action past) actions new more rest.1 rest.0
     (record {
       holds = holds;
-      true_ = honest_true (after deed past).told mid.book (after deed past).heard rest.0 holds.known;
+      true_ = honest_true (after action past).told mid.book (after action past).heard rest.0 holds.known;
     }) in
     ((k.holds.sound, all.0), all.1)
 
@@ -194,27 +194,27 @@ none_heard b = record {
   dones = λ ticket cutoff count ending among area given x inside good. absurd (omega (arith, among.1));
 }
 
-book_loses_nothing : (b : BookState) (faults : ℕ) (deeds : List Deed) (now : HubState) → IsBook b
-    → IsSoundBook b → b.last ≡ 0 → (course : IsCourse (beginning b faults) deeds now)
-    → StaysHonest (beginning b faults) nothing deeds now course
-    → AreSound (beginning b faults) deeds now course × LosesNothing now.book
-book_loses_nothing b faults deeds now book sound unused course stays =
-    course_keeps (length b.ranks) (beginning b faults) nothing deeds now course stays (none_heard b)
+book_loses_nothing : (b : BookState) (faults : ℕ) (actions : List Action) (now : CoordinatorState) → IsBook b
+    → IsSoundBook b → b.last ≡ 0 → (trace : IsTrace (beginning b faults) actions now)
+    → StaysHonest (beginning b faults) nothing actions now trace
+    → AreSound (beginning b faults) actions now trace × LosesNothing now.book
+book_loses_nothing b faults actions now book sound unused trace stays =
+    trace_keeps (length b.ranks) (beginning b faults) nothing actions now trace stays (none_heard b)
     (record {
       holds = unused_holds (opening b []) book sound unused;
       true_ = unused_true b [] book unused;
     })
 
--- without a deed
-none_loses : (b : BookState) (faults : ℕ) (deeds : List Deed) (now : HubState) → deeds ≡ [] → IsSoundBook b
-    → (course : IsCourse (beginning b faults) deeds now)
-    → AreSound (beginning b faults) deeds now course × LosesNothing now.book
-none_loses b faults [] now none sound course =
-    (sound, subst (λ (s : HubState). LosesNothing s.book) (sym course) (loses_nothing b sound))
-none_loses b faults (deed ∷ deeds) now none sound course = absurd cc
+-- without a action
+none_loses : (b : BookState) (faults : ℕ) (actions : List Action) (now : CoordinatorState) → actions ≡ [] → IsSoundBook b
+    → (trace : IsTrace (beginning b faults) actions now)
+    → AreSound (beginning b faults) actions now trace × LosesNothing now.book
+none_loses b faults [] now none sound trace =
+    (sound, subst (λ (s : CoordinatorState). LosesNothing s.book) (sym trace) (loses_nothing b sound))
+none_loses b faults (action ∷ actions) now none sound trace = absurd cc
 
 pub coordinators_lose_nothing : CoordinatorsLoseNothing
 coordinators_lose_nothing b faults now come made sound unused stays = elim made [
-  | inl book ↦ book_loses_nothing b faults come.deeds now book sound unused come.course stays
-  | inr none ↦ none_loses b faults come.deeds now none sound come.course
+  | inl book ↦ book_loses_nothing b faults come.actions now book sound unused come.trace stays
+  | inr none ↦ none_loses b faults come.actions now none sound come.trace
 ]

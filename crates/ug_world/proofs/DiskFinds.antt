@@ -20,7 +20,7 @@ use Rattle.ug_world.specs.declared.event.Event.{Event}
 use Rattle.ug_world.specs.declared.disk_event.DiskEvent.{DiskEvent}
 use Rattle.ug_world.specs.declared.disk_event.DiskEvent.TheVariants.{World as InWorld, Note, Save, Crash, Stop}
 use Rattle.ug_world.specs.Saves.{IsAttempt, next_found}
-use Rattle.ug_world.specs.Machines.{DiskWorld, HappensOnDisk, HasAttempted, HasNoted, HasRestarted, IsDiskCourse, OfWorld, SavesWhat, store_of}
+use Rattle.ug_world.specs.Machines.{DiskWorld, HappensOnDisk, HasAttempted, HasNoted, HasRestarted, IsDiskTrace, OfWorld, SavesWhat, store_of}
 use Rattle.ug_world.specs.DiskFinds.{AreFound, IsBetween, IsFoundThrough, IsLatest, IsNoOlder, IsOfStart, IsOfWorld}
 use Rattle.ug_world.specs.DiskLaws.{AreNumbered, HasBegun, ImagesAreFound, IsNumbered, RunsRise}
 use Rattle.ug_world.proofs.Finds.{CouldAll, HasAll, OfGoneOn, all_alike, all_found, all_more, could_crashed, could_has, could_more, each_alike, find_crashed, refused_all, restart_each, saved_all, saved_each}
@@ -530,30 +530,30 @@ step past (Stop settings) old new t h =
       numbered = s.rises;
     }
 
-course_found : (past : List DiskWorld) (old : DiskWorld) (events : List DiskEvent)
-    (course : List DiskWorld) → IsDiskCourse old events course → Keeps past old
-    → AreFound past old events course
-course_found past old [] [] t h = tt
-course_found past old (event ∷ events) (new ∷ course) t h =
+trace_found : (past : List DiskWorld) (old : DiskWorld) (events : List DiskEvent)
+    (trace : List DiskWorld) → IsDiskTrace old events trace → Keeps past old
+    → AreFound past old events trace
+trace_found past old [] [] t h = tt
+trace_found past old (event ∷ events) (new ∷ trace) t h =
     let first = step past event old new t.0 h in
-    (first.through, course_found (new ∷ past) new events course t.1 first.found)
-course_found past old [] (new ∷ course) t h = absurd t
-course_found past old (event ∷ events) [] t h = absurd t
+    (first.through, trace_found (new ∷ past) new events trace t.1 first.found)
+trace_found past old [] (new ∷ trace) t h = absurd t
+trace_found past old (event ∷ events) [] t h = absurd t
 
-course_numbers : (past : List DiskWorld) (old : DiskWorld) (events : List DiskEvent)
-    (course : List DiskWorld) → IsDiskCourse old events course → Keeps past old
-    → AreNumbered old events course
-course_numbers past old [] [] t h = tt
-course_numbers past old (event ∷ events) (new ∷ course) t h =
+trace_numbers : (past : List DiskWorld) (old : DiskWorld) (events : List DiskEvent)
+    (trace : List DiskWorld) → IsDiskTrace old events trace → Keeps past old
+    → AreNumbered old events trace
+trace_numbers past old [] [] t h = tt
+trace_numbers past old (event ∷ events) (new ∷ trace) t h =
     let first = step past event old new t.0 h in
-    (first.numbered, course_numbers (new ∷ past) new events course t.1 first.found)
-course_numbers past old [] (new ∷ course) t h = absurd t
-course_numbers past old (event ∷ events) [] t h = absurd t
+    (first.numbered, trace_numbers (new ∷ past) new events trace t.1 first.found)
+trace_numbers past old [] (new ∷ trace) t h = absurd t
+trace_numbers past old (event ∷ events) [] t h = absurd t
 
 pub images_are_found : ImagesAreFound
-images_are_found start events course begins t =
-    course_found (start ∷ []) start events course t (begun_found start begins)
+images_are_found start events trace begins t =
+    trace_found (start ∷ []) start events trace t (begun_found start begins)
 
 pub runs_rise : RunsRise
-runs_rise start events course begins t =
-    course_numbers (start ∷ []) start events course t (begun_found start begins)
+runs_rise start events trace begins t =
+    trace_numbers (start ∷ []) start events trace t (begun_found start begins)

@@ -21,11 +21,11 @@ use Rattle.ug_restart.specs.Starts.{IsGoneOn, boxes_saved, next_run}
 use Rattle.ug_restart.proofs.Goings.{covered_on}
 use Rattle.ug_world.specs.declared.event.Event.{Event}
 use Rattle.ug_world.specs.Worlds.{World}
-use Rattle.ug_world.proofs.Courses.{Holds as WorldHolds, event_holds, loses_nothing, unused_holds}
+use Rattle.ug_world.proofs.Traces.{Holds as WorldHolds, event_holds, loses_nothing, unused_holds}
 use Rattle.ug_world.proofs.Trusted.{AreTrue, honest_true, unused_true}
 use Rattle.ug_world.specs.declared.disk_event.DiskEvent.{DiskEvent}
 use Rattle.ug_world.specs.declared.disk_event.DiskEvent.TheVariants.{World as InWorld, Note, Save, Crash, Stop}
-use Rattle.ug_world.specs.Machines.{DiskWorld, HappensOnDisk, HasAttempted, HasGoneOn, HasNoted, HasRestarted, IsDiskCourse, IsNotRestarted, OfWorld, SavesWhat, disk_end_of, last_left, left_by}
+use Rattle.ug_world.specs.Machines.{DiskWorld, HappensOnDisk, HasAttempted, HasGoneOn, HasNoted, HasRestarted, IsDiskTrace, IsNotRestarted, OfWorld, SavesWhat, disk_end_of, last_left, left_by}
 use Rattle.ug_world.specs.DiskLaws.{CrashesLoseNothing, HasBegun, IsHonestOnDisk, LoseNothing, LosesNothingSince}
 use Rattle.ug_world.proofs.Finds.{CouldAll, HasAll, OfBook, OfGoneOn, all_alike, all_found, could_crashed, could_has, refused_all, restart_each, saved_all, saved_each}
 
@@ -214,30 +214,30 @@ loses since w h = record {
   disk = h.each;
 }
 
-course_loses : (since : History) (old : DiskWorld) (events : List DiskEvent)
-    (course : List DiskWorld) → IsDiskCourse old events course → All IsHonestOnDisk course
-    → Holds since old → LoseNothing since events course
-course_loses since old [] [] t honest h = tt
-course_loses since old (event ∷ events) (new ∷ course) t honest h =
-    let first = step_holds since event old new t.0 (All-head IsHonestOnDisk new course honest) h in (
+trace_loses : (since : History) (old : DiskWorld) (events : List DiskEvent)
+    (trace : List DiskWorld) → IsDiskTrace old events trace → All IsHonestOnDisk trace
+    → Holds since old → LoseNothing since events trace
+trace_loses since old [] [] t honest h = tt
+trace_loses since old (event ∷ events) (new ∷ trace) t honest h =
+    let first = step_holds since event old new t.0 (All-head IsHonestOnDisk new trace honest) h in (
       loses (left_by event since) new first,
-      course_loses (left_by event since) new events course t.1
-          (All-tail IsHonestOnDisk new course honest) first,
+      trace_loses (left_by event since) new events trace t.1
+          (All-tail IsHonestOnDisk new trace honest) first,
     )
-course_loses since old [] (new ∷ course) t honest h = absurd t
-course_loses since old (event ∷ events) [] t honest h = absurd t
+trace_loses since old [] (new ∷ trace) t honest h = absurd t
+trace_loses since old (event ∷ events) [] t honest h = absurd t
 
 -- at the end of a course
-pub course_holds : (since : History) (old : DiskWorld) (events : List DiskEvent)
-    (course : List DiskWorld) → IsDiskCourse old events course → All IsHonestOnDisk course
-    → Holds since old → Holds (last_left since events) (disk_end_of old course)
-course_holds since old [] [] t honest h = h
-course_holds since old (event ∷ events) (new ∷ course) t honest h =
-    course_holds (left_by event since) new events course t.1
-    (All-tail IsHonestOnDisk new course honest)
-    (step_holds since event old new t.0 (All-head IsHonestOnDisk new course honest) h)
-course_holds since old [] (new ∷ course) t honest h = absurd t
-course_holds since old (event ∷ events) [] t honest h = absurd t
+pub trace_holds : (since : History) (old : DiskWorld) (events : List DiskEvent)
+    (trace : List DiskWorld) → IsDiskTrace old events trace → All IsHonestOnDisk trace
+    → Holds since old → Holds (last_left since events) (disk_end_of old trace)
+trace_holds since old [] [] t honest h = h
+trace_holds since old (event ∷ events) (new ∷ trace) t honest h =
+    trace_holds (left_by event since) new events trace t.1
+    (All-tail IsHonestOnDisk new trace honest)
+    (step_holds since event old new t.0 (All-head IsHonestOnDisk new trace honest) h)
+trace_holds since old [] (new ∷ trace) t honest h = absurd t
+trace_holds since old (event ∷ events) [] t honest h = absurd t
 
 pub begun_holds : (w : DiskWorld) → HasBegun w → Holds w.told w
 begun_holds w b =
@@ -250,5 +250,5 @@ begun_holds w b =
     }
 
 pub crashes_lose_nothing : CrashesLoseNothing
-crashes_lose_nothing start events course begins are t honest =
-    course_loses start.told start events course t honest (begun_holds start begins)
+crashes_lose_nothing start events trace begins are t honest =
+    trace_loses start.told start events trace t honest (begun_holds start begins)

@@ -7,45 +7,45 @@ use Rattle.ug_disk.specs.Crashes.{Leaves}
 use Rattle.ug_snapshot.specs.Moments.{IsCovered}
 use Rattle.ug_restart.specs.Moments.{FindsIn}
 use Rattle.ug_world.specs.declared.event.Event.{Event}
-use Rattle.ug_world.proofs.Courses.{left_sound, loses_nothing}
+use Rattle.ug_world.proofs.Traces.{left_sound, loses_nothing}
 use Rattle.ug_world.specs.declared.disk_event.DiskEvent.{DiskEvent}
 use Rattle.ug_world.specs.declared.disk_event.DiskEvent.TheVariants.{World as InWorld, Note, Save, Crash, Stop}
 use Rattle.ug_world.specs.declared.halt.Halted.{Halted}
 use Rattle.ug_world.specs.declared.halt.Halted.TheVariants.{NoSuch, NoRank, NotAllowed, Refused, Memory}
 use Rattle.ug_world.specs.declared.disk_schedule.PlayedDisk.{PlayedDisk}
-use Rattle.ug_world.specs.Machines.{DiskWorld, HappensOnDisk, IsAble, IsDiskCourse, disk_end_of, last_left}
+use Rattle.ug_world.specs.Machines.{DiskWorld, HappensOnDisk, IsAble, IsDiskTrace, disk_end_of, last_left}
 use Rattle.ug_world.specs.DiskHalts.{IsNotLeft, IsOutOfWorld, IsStill}
 use Rattle.ug_world.specs.DiskLaws.{HasBegun, IsHonestOnDisk}
-use Rattle.ug_world.specs.DiskPlays.{HasCome, IsHaltedAt, IsLeftOf, NothingIsLost}
-use Rattle.ug_world.proofs.DiskLaws.{Holds, begun_holds, course_holds}
+use Rattle.ug_world.specs.DiskPlays.{Reaches, IsHaltedAt, IsLeftOf, NothingIsLost}
+use Rattle.ug_world.proofs.DiskLaws.{Holds, begun_holds, trace_holds}
 
 -- the events happened, and what stands may continue
 pub record IsOnTheWay (start : DiskWorld) (events : List DiskEvent) (done : ℕ) (w : DiskWorld)
     : Type 0 where
-  pub come : HasCome start events done w
+  pub come : Reaches start events done w
   pub able : IsAble w
 
 pub at_start : (start : DiskWorld) (events : List DiskEvent) → IsAble start
     → IsOnTheWay start events 0 start
 at_start start events able = record {
-  come = record { course = []; happened = tt; ends = refl };
+  come = record { trace = []; happened = tt; ends = refl };
   able = able;
 }
 
-course_more : (old new : DiskWorld) (events : List DiskEvent) (event : DiskEvent)
-    (course : List DiskWorld) → IsDiskCourse old events course
-    → HappensOnDisk (disk_end_of old course) event new
-    → IsDiskCourse old (events ++ event ∷ []) (course ++ new ∷ [])
-course_more old new [] event [] t h = (h, tt)
-course_more old new (first ∷ events) event (next ∷ course) t h =
-    (t.0, course_more next new events event course t.1 h)
-course_more old new [] event (next ∷ course) t h = absurd t
-course_more old new (first ∷ events) event [] t h = absurd t
+trace_more : (old new : DiskWorld) (events : List DiskEvent) (event : DiskEvent)
+    (trace : List DiskWorld) → IsDiskTrace old events trace
+    → HappensOnDisk (disk_end_of old trace) event new
+    → IsDiskTrace old (events ++ event ∷ []) (trace ++ new ∷ [])
+trace_more old new [] event [] t h = (h, tt)
+trace_more old new (first ∷ events) event (next ∷ trace) t h =
+    (t.0, trace_more next new events event trace t.1 h)
+trace_more old new [] event (next ∷ trace) t h = absurd t
+trace_more old new (first ∷ events) event [] t h = absurd t
 
-end_more : (old new : DiskWorld) (course : List DiskWorld)
-    → disk_end_of old (course ++ new ∷ []) ≡ new
+end_more : (old new : DiskWorld) (trace : List DiskWorld)
+    → disk_end_of old (trace ++ new ∷ []) ≡ new
 end_more old new [] = refl
-end_more old new (next ∷ course) = end_more next new course
+end_more old new (next ∷ trace) = end_more next new trace
 
 pub one_more : (start old new : DiskWorld) (events : List DiskEvent) (done : ℕ)
     (event : DiskEvent) → IsOnTheWay start events done old → HappensOnDisk old event new
@@ -53,11 +53,11 @@ pub one_more : (start old new : DiskWorld) (events : List DiskEvent) (done : ℕ
     → IsOnTheWay start events (done + 1) new
 one_more start old new events done event t h able more = record {
   come = record {
-    course = t.come.course ++ new ∷ [];
-    happened = subst (λ es. IsDiskCourse start es (t.come.course ++ new ∷ [])) (sym more)
-        (course_more start new (take done events) event t.come.course t.come.happened
+    trace = t.come.trace ++ new ∷ [];
+    happened = subst (λ es. IsDiskTrace start es (t.come.trace ++ new ∷ [])) (sym more)
+        (trace_more start new (take done events) event t.come.trace t.come.happened
         (subst (λ w. HappensOnDisk w event new) (sym t.come.ends) h));
-    ends = end_more start new t.come.course;
+    ends = end_more start new t.come.trace;
   };
   able = able;
 }
@@ -65,11 +65,11 @@ one_more start old new events done event t h able more = record {
 -- ---- the rest
 
 come_holds : (start w : DiskWorld) (events : List DiskEvent) (done : ℕ) → HasBegun start
-    → (come : HasCome start events done w) → All IsHonestOnDisk come.course
+    → (come : Reaches start events done w) → All IsHonestOnDisk come.trace
     → Holds (last_left start.told (take done events)) w
 come_holds start w events done begins come honest =
     subst (Holds (last_left start.told (take done events))) come.ends
-    (course_holds start.told start (take done events) come.course come.happened honest
+    (trace_holds start.told start (take done events) come.trace come.happened honest
     (begun_holds start begins))
 
 -- no better point is lost by these, since then
@@ -88,8 +88,8 @@ stays : (since : History) (w : DiskWorld) → Holds since w → Stays since w w
 stays since w h = record { sound = λ goes_on. (h.runs goes_on).holds.sound; each = h.each }
 
 pub played_lost : (start w : DiskWorld) (events : List DiskEvent) (left : PlayedDisk)
-    → HasBegun start → (come : HasCome start events (length events) w)
-    → All IsHonestOnDisk come.course → IsLeftOf w left
+    → HasBegun start → (come : Reaches start events (length events) w)
+    → All IsHonestOnDisk come.trace → IsLeftOf w left
     → NothingIsLost (last_left start.told (take (length events) events)) w left
 played_lost start w events left begins come honest is =
     let since = last_left start.told (take (length events) events) in
@@ -140,8 +140,8 @@ halted_lost since (Some (Crash zero one settings)) w new why t h =
 halted_lost since (Some (Stop settings)) w new why t h = absurd t
 
 pub stopped_lost : (start w new : DiskWorld) (events : List DiskEvent) (done : ℕ) (why : Halted)
-    (left : PlayedDisk) → HasBegun start → (come : HasCome start events done w)
-    → All IsHonestOnDisk come.course → IsHaltedAt (slice_get events done) w new why
+    (left : PlayedDisk) → HasBegun start → (come : Reaches start events done w)
+    → All IsHonestOnDisk come.trace → IsHaltedAt (slice_get events done) w new why
     → IsLeftOf new left → NothingIsLost (last_left start.told (take done events)) w left
 stopped_lost start w new events done why left begins come honest halted is =
     let since = last_left start.told (take done events) in

@@ -16,12 +16,12 @@ use Rattle.ug_ranks.specs.declared.state.State.TheVariants.{Absent, Idle, Racing
 use Rattle.ug_rules.specs.declared.heard.Heard.{Heard}
 use Rattle.ug_rules.specs.State.{BookState}
 use Rattle.ug_rules.specs.Hearing.{is_deadly, ready_answer}
-use Rattle.ug_coord.specs.Deeds.{Deed, IsCourse, IsTaken, HubState, Took}
-use Rattle.ug_coord.specs.Hubs.{beginning}
-use Rattle.ug_coord.proofs.Coursing.{course_more}
+use Rattle.ug_coord.specs.Actions.{Action, IsTrace, IsTaken, CoordinatorState, Took}
+use Rattle.ug_coord.specs.Coordinators.{beginning}
+use Rattle.ug_coord.proofs.Coursing.{trace_more}
 use Rattle.ug_serve.specs.CrewLaws.{AreReportsAt, reports_of}
-use Rattle.ug_serve.specs.Deeds as worker
-use Rattle.ug_serve.specs.Staffs.{IsWorked}
+use Rattle.ug_serve.specs.Actions as worker
+use Rattle.ug_serve.specs.SimWorkers.{IsWorked}
 use Rattle.ug_serve.proofs.Crewed.{IsSentTo, taken_of, told_kept, took_turned}
 use Rattle.ug_serve.proofs.Honesty.{nothing_in}
 use Rattle.ug_serve.proofs.Spoken.{IsSpoken, spoken}
@@ -33,40 +33,40 @@ use Rattle.ug_world.proofs.Traffic.{from_rank, only, orders_to, reports_from, se
 use Rattle.ug_world.proofs.Unheard.{IsAbsentAt, IsAway}
 use Rattle.ug_world.proofs.Worked.{read_from, sent_to, traffic}
 
--- ---- with one deed more
+-- ---- with one action more
 
-pub reports_push : (r : ℕ) (done : List Deed) (deed : Deed)
-    → reports_from r (done ++ deed ∷ []) ≡ reports_from r done ++ from_rank r (taken_in deed)
-reports_push r [] deed = append-nil (from_rank r (taken_in deed))
-reports_push r (one ∷ done) deed =
-    ap (λ (rs : List Report). from_rank r (taken_in one) ++ rs) (reports_push r done deed)
-    ∙ sym (append_assoc (from_rank r (taken_in one)) (reports_from r done) (from_rank r (taken_in deed)))
+pub reports_push : (r : ℕ) (done : List Action) (action : Action)
+    → reports_from r (done ++ action ∷ []) ≡ reports_from r done ++ from_rank r (taken_in action)
+reports_push r [] action = append-nil (from_rank r (taken_in action))
+reports_push r (one ∷ done) action =
+    ap (λ (rs : List Report). from_rank r (taken_in one) ++ rs) (reports_push r done action)
+    ∙ sym (append_assoc (from_rank r (taken_in one)) (reports_from r done) (from_rank r (taken_in action)))
 
-orders_push : (gap : ℤ) (r : ℕ) (done : List Deed) (deed : Deed)
-    → orders_to gap r (done ++ deed ∷ []) ≡ orders_to gap r done ++ to_rank r (sent_in gap deed)
-orders_push gap r [] deed = append-nil (to_rank r (sent_in gap deed))
-orders_push gap r (one ∷ done) deed =
-    ap (λ (os : List Order). to_rank r (sent_in gap one) ++ os) (orders_push gap r done deed)
-    ∙ sym (append_assoc (to_rank r (sent_in gap one)) (orders_to gap r done) (to_rank r (sent_in gap deed)))
+orders_push : (gap : ℤ) (r : ℕ) (done : List Action) (action : Action)
+    → orders_to gap r (done ++ action ∷ []) ≡ orders_to gap r done ++ to_rank r (sent_in gap action)
+orders_push gap r [] action = append-nil (to_rank r (sent_in gap action))
+orders_push gap r (one ∷ done) action =
+    ap (λ (os : List Order). to_rank r (sent_in gap one) ++ os) (orders_push gap r done action)
+    ∙ sym (append_assoc (to_rank r (sent_in gap one)) (orders_to gap r done) (to_rank r (sent_in gap action)))
 
 -- ---- when a report is received
 
-module _ (b : BookState) (faults : ℕ) (unused : IsUnused b) (done : List Deed) (old mid : HubState)
-    (so : IsCourse (beginning b faults) done old) (r : ℕ) (report : Report) (answer : Heard)
+module _ (b : BookState) (faults : ℕ) (unused : IsUnused b) (done : List Action) (old mid : CoordinatorState)
+    (so : IsTrace (beginning b faults) done old) (r : ℕ) (report : Report) (answer : Heard)
     (does : IsTaken old mid r report answer) (worked : IsWorked mid.said r) where
   -- what the worker had received and reported when it sent the report
   pub spoken_then : IsSpoken b.problem (orders_to b.settings.gap r done) (reports_from r done) report
   spoken_then =
-      let deed : Deed = Took r report answer in
-      let more = course_more (beginning b faults) done old mid deed so does in
+      let action : Action = Took r report answer in
+      let more = trace_more (beginning b faults) done old mid action so does in
       spoken b.problem mid.said r (orders_to b.settings.gap r done) (reports_from r done) report worked
       (subst (λ (os : List Order). IsSentTo b.problem mid.said r os)
-      (orders_push b.settings.gap r done deed ∙ append-nil (orders_to b.settings.gap r done))
-      (sent_to b faults unused (done ++ deed ∷ []) mid more r))
+      (orders_push b.settings.gap r done action ∙ append-nil (orders_to b.settings.gap r done))
+      (sent_to b faults unused (done ++ action ∷ []) mid more r))
       (subst (λ (rs : List Report). AreReportsAt mid.said r rs)
-      (reports_push r done deed
+      (reports_push r done action
       ∙ ap (λ (yes : Bool). reports_from r done ++ only yes report) (eq-eqb r r refl))
-      (read_from b faults unused (done ++ deed ∷ []) mid more r))
+      (read_from b faults unused (done ++ action ∷ []) mid more r))
 
   same_problem : old.book.problem ≡ b.problem
   same_problem = (traffic b faults unused done old so r).grows.problem
@@ -78,16 +78,16 @@ none_kept (r ∷ rs) none = absurd (none r (in_front r rs))
 -- Ready is the first report
 first_ready : (p : Instance) (sent : List Order) (heard : List Report) → IsSpoken p sent heard Ready → heard ≡ []
 first_ready p sent heard t =
-    sym t.told ∙ none_kept (reports_of t.deeds) (λ report there.
-    nothing_in report (subst (λ (rs : List Report). Contains rs report) t.said (told_kept [] t.deeds report there)))
+    sym t.told ∙ none_kept (reports_of t.actions) (λ report there.
+    nothing_in report (subst (λ (rs : List Report). Contains rs report) t.said (told_kept [] t.actions report there)))
 
 -- Ended is reported behind the order
 ended_late : (p : Instance) (sent : List Order) (heard : List Report) → IsSpoken p sent heard Ended
     → Contains sent End
-ended_late p sent heard t = elim (took_turned [] t.deeds End t.said.1) [
+ended_late p sent heard t = elim (took_turned [] t.actions End t.said.1) [
   | inl none ↦ absurd (nothing_in (worker.Took End) none)
   | inr own ↦ subst (λ (os : List Order). Contains os End) (sym t.taken)
-      (Contains-append_left (taken_of t.deeds) t.later End own)
+      (Contains-append_left (taken_of t.actions) t.later End own)
 ]
 
 ready_harmless : (state : State) → IsAway state → is_deadly (ready_answer state) ≡ false
@@ -106,8 +106,8 @@ IsOfWork (Reported ticket count floor) = ⊥
 IsOfWork (Done ticket told count ending) = Unit {0}
 IsOfWork Ended = ⊥
 
-module _ (b : BookState) (faults : ℕ) (unused : IsUnused b) (done : List Deed) (old mid : HubState)
-    (so : IsCourse (beginning b faults) done old) (r : ℕ)
+module _ (b : BookState) (faults : ℕ) (unused : IsUnused b) (done : List Action) (old mid : CoordinatorState)
+    (so : IsTrace (beginning b faults) done old) (r : ℕ)
     (away : reports_from r done ≡ [] → IsAbsentAt old.book.ranks r) (answer : Heard) where
   -- reports received from a worker are fair, if its hands and dones are
   pub told_fair : (report : Report) → IsTaken old mid r report answer → IsWorked mid.said r

@@ -3,7 +3,7 @@ pub mod Heard
 pub mod Given
 pub mod Decided
 pub mod Trusted
-pub mod Courses
+pub mod Traces
 pub mod Plays
 pub mod Finds
 pub mod Begins

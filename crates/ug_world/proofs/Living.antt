@@ -15,17 +15,17 @@ use Rattle.ug_rules.specs.declared.told.Told.{Told}
 use Rattle.ug_rules.specs.State.{BookState}
 use Rattle.ug_rules.specs.Hearing.{after_hearing, is_deadly}
 use Rattle.ug_book.specs.Reads.{IsOrderTold}
-use Rattle.ug_coord.specs.Deeds.{Broke, Came, Closed, Decided, Deed, Does, Halted, IsCourse, IsTaken, Launched, Lost, Passed}
-use Rattle.ug_coord.specs.Deeds.{Sent, SetUp, HubState, Took, Unclosed, Unfed, Unread, Unsent, Unwritten}
-use Rattle.ug_coord.specs.Deeds.{Kept as Saved}
-use Rattle.ug_coord.specs.Hubs.{beginning}
-use Rattle.ug_coord.proofs.Coursing.{course_more}
-use Rattle.ug_serve.specs.Staffs.{AreAlwaysWorked, AreWorked}
+use Rattle.ug_coord.specs.Actions.{Broke, Came, Closed, Decided, Action, NextState, Halted, IsTrace, IsTaken, Launched, Lost, Passed}
+use Rattle.ug_coord.specs.Actions.{Sent, SetUp, CoordinatorState, Took, Unclosed, Unfed, Unread, Unsent, Unwritten}
+use Rattle.ug_coord.specs.Actions.{Kept as Saved}
+use Rattle.ug_coord.specs.Coordinators.{beginning}
+use Rattle.ug_coord.proofs.Coursing.{trace_more}
+use Rattle.ug_serve.specs.SimWorkers.{AreAlwaysWorked, AreWorked}
 use Rattle.ug_serve.proofs.Honesty.{nothing_in}
 use Rattle.ug_serve.proofs.Told.{behind, first_or, in_front}
 use Rattle.ug_world.specs.Calm.{CalmWorkersLive}
 use Rattle.ug_world.specs.Workers.{IsUnused}
-use Rattle.ug_world.proofs.Calm.{AreQuiet, IsQuietDeed, answer_of_cause, course_quiet}
+use Rattle.ug_world.proofs.Calm.{AreQuiet, IsQuietAction, answer_of_cause, trace_quiet}
 use Rattle.ug_world.proofs.Fair.{IsFair, fair_lives}
 use Rattle.ug_world.proofs.Fairness.{reports_push, told_fair}
 use Rattle.ug_world.proofs.Hearing.{HasHeard, heard_so}
@@ -36,18 +36,18 @@ use Rattle.ug_world.proofs.Traffic.{Delivery, from_rank, left_in, left_of, only,
 use Rattle.ug_world.proofs.Unheard.{IsAbsentAt, IsAway, decided_stays, heard_stays}
 use Rattle.ug_world.proofs.Worked.{left_push, traffic}
 
--- the answer, if the deed has one, loses no rank
-abbrev IsHarmlessDeed : Deed → Type 0
-IsHarmlessDeed (Took rank report answer) = is_deadly answer ≡ false
-IsHarmlessDeed deed = Unit {0}
+-- the answer, if the action has one, loses no rank
+abbrev IsHarmlessAction : Action → Type 0
+IsHarmlessAction (Took rank report answer) = is_deadly answer ≡ false
+IsHarmlessAction action = Unit {0}
 
 -- each rank of which nothing was received has not joined
-abbrev pub AreAway : List Deed → HubState → Type 0
+abbrev pub AreAway : List Action → CoordinatorState → Type 0
 AreAway done s = (rank : ℕ) → reports_from rank done ≡ [] → IsAbsentAt s.book.ranks rank
 
--- ---- one deed
+-- ---- one action
 
-same_ranks : (old new : HubState) (rank : ℕ) → new.book.ranks ≡ old.book.ranks → IsAbsentAt old.book.ranks rank
+same_ranks : (old new : CoordinatorState) (rank : ℕ) → new.book.ranks ≡ old.book.ranks → IsAbsentAt old.book.ranks rank
     → IsAbsentAt new.book.ranks rank
 same_ranks old new rank same absent = subst (λ (states : List State). IsAbsentAt states rank) (sym same) absent
 
@@ -59,63 +59,63 @@ another q rank report none same =
           (sym none ∙ ap (λ (yes : Bool). only yes report) (eq-eqb q rank same)),
     ))
 
-deed_away : (old : HubState) (deed : Deed) (new : HubState) → Does old deed new → IsQuietDeed deed
-    → IsHarmlessDeed deed → (rank : ℕ) → from_rank rank (taken_in deed) ≡ [] → IsAbsentAt old.book.ranks rank
+action_away : (old : CoordinatorState) (action : Action) (new : CoordinatorState) → NextState old action new → IsQuietAction action
+    → IsHarmlessAction action → (rank : ℕ) → from_rank rank (taken_in action) ≡ [] → IsAbsentAt old.book.ranks rank
     → IsAbsentAt new.book.ranks rank
-deed_away old (Launched q) new does quiet harmless rank none absent =
-    same_ranks old new rank (ap (λ (s : HubState). s.book.ranks) does.1) absent
-deed_away old (SetUp q bytes) new does quiet harmless rank none absent =
-    same_ranks old new rank (ap (λ (s : HubState). s.book.ranks) does.rest) absent
-deed_away old (Closed q) new does quiet harmless rank none absent =
-    same_ranks old new rank (ap (λ (s : HubState). s.book.ranks) does.rest) absent
-deed_away old (Came q bytes) new does quiet harmless rank none absent =
-    same_ranks old new rank (ap (λ (s : HubState). s.book.ranks) does.rest) absent
-deed_away old (Took q report answer) new does quiet harmless rank none absent =
-    subst (λ (s : HubState). IsAbsentAt s.book.ranks rank) (sym does.rest)
+action_away old (Launched q) new does quiet harmless rank none absent =
+    same_ranks old new rank (ap (λ (s : CoordinatorState). s.book.ranks) does.1) absent
+action_away old (SetUp q bytes) new does quiet harmless rank none absent =
+    same_ranks old new rank (ap (λ (s : CoordinatorState). s.book.ranks) does.rest) absent
+action_away old (Closed q) new does quiet harmless rank none absent =
+    same_ranks old new rank (ap (λ (s : CoordinatorState). s.book.ranks) does.rest) absent
+action_away old (Came q bytes) new does quiet harmless rank none absent =
+    same_ranks old new rank (ap (λ (s : CoordinatorState). s.book.ranks) does.rest) absent
+action_away old (Took q report answer) new does quiet harmless rank none absent =
+    subst (λ (s : CoordinatorState). IsAbsentAt s.book.ranks rank) (sym does.rest)
     (heard_stays answer q report old.book rank (another q rank report none) harmless absent)
-deed_away old (Lost q cause) new does quiet harmless rank none absent = absurd quiet
-deed_away old Decided new does quiet harmless rank none absent =
+action_away old (Lost q cause) new does quiet harmless rank none absent = absurd quiet
+action_away old Decided new does quiet harmless rank none absent =
     decided_stays old.book new.book rank does.is absent
-deed_away old (Sent q order) new does quiet harmless rank none absent =
+action_away old (Sent q order) new does quiet harmless rank none absent =
     same_ranks old new rank (ap (λ (b : BookState). b.ranks) does.told.rest) absent
-deed_away old (Unsent q order) new does quiet harmless rank none absent = absurd quiet
-deed_away old (Passed q order) new does quiet harmless rank none absent =
+action_away old (Unsent q order) new does quiet harmless rank none absent = absurd quiet
+action_away old (Passed q order) new does quiet harmless rank none absent =
     same_ranks old new rank (ap (λ (b : BookState). b.ranks) does.told.rest) absent
-deed_away old Broke new does quiet harmless rank none absent = absurd quiet
-deed_away old (Unclosed q) new does quiet harmless rank none absent = absurd quiet
-deed_away old (Halted steps) new does quiet harmless rank none absent = absurd quiet
-deed_away old (Unwritten q order) new does quiet harmless rank none absent = absurd quiet
-deed_away old (Unfed q bytes) new does quiet harmless rank none absent = absurd quiet
-deed_away old Unread new does quiet harmless rank none absent = absurd quiet
-deed_away old Saved new does quiet harmless rank none absent =
-    same_ranks old new rank (ap (λ (s : HubState). s.book.ranks) does.rest) absent
+action_away old Broke new does quiet harmless rank none absent = absurd quiet
+action_away old (Unclosed q) new does quiet harmless rank none absent = absurd quiet
+action_away old (Halted steps) new does quiet harmless rank none absent = absurd quiet
+action_away old (Unwritten q order) new does quiet harmless rank none absent = absurd quiet
+action_away old (Unfed q bytes) new does quiet harmless rank none absent = absurd quiet
+action_away old Unread new does quiet harmless rank none absent = absurd quiet
+action_away old Saved new does quiet harmless rank none absent =
+    same_ranks old new rank (ap (λ (s : CoordinatorState). s.book.ranks) does.rest) absent
 
 both_nil : (rs ts : List Report) → rs ++ ts ≡ [] → (rs ≡ []) × (ts ≡ [])
 both_nil [] ts none = (refl, none)
 both_nil (r ∷ rs) ts none = absurd (omega (arith, ap (λ (l : List Report). length l) none))
 
-away_more : (done : List Deed) (old : HubState) (deed : Deed) (new : HubState) → Does old deed new
-    → IsQuietDeed deed → IsHarmlessDeed deed → AreAway done old → AreAway (done ++ deed ∷ []) new
-away_more done old deed new does quiet harmless away rank none =
-    let parts = both_nil (reports_from rank done) (from_rank rank (taken_in deed))
-    (sym (reports_push rank done deed) ∙ none) in
-    deed_away old deed new does quiet harmless rank parts.1 (away rank parts.0)
+away_more : (done : List Action) (old : CoordinatorState) (action : Action) (new : CoordinatorState) → NextState old action new
+    → IsQuietAction action → IsHarmlessAction action → AreAway done old → AreAway (done ++ action ∷ []) new
+away_more done old action new does quiet harmless away rank none =
+    let parts = both_nil (reports_from rank done) (from_rank rank (taken_in action))
+    (sym (reports_push rank done action) ∙ none) in
+    action_away old action new does quiet harmless rank parts.1 (away rank parts.0)
 
 -- ---- a course
 
-abbrev pub AreHarmless : List Deed → Type 0
-AreHarmless deeds = (rank : ℕ) (report : Report) (answer : Heard) → Contains deeds (Took rank report answer)
+abbrev pub AreHarmless : List Action → Type 0
+AreHarmless actions = (rank : ℕ) (report : Report) (answer : Heard) → Contains actions (Took rank report answer)
     → is_deadly answer ≡ false
 
-harmless_more : (deed : Deed) (deeds : List Deed) → IsHarmlessDeed deed → AreHarmless deeds
-    → AreHarmless (deed ∷ deeds)
-harmless_more deed deeds is all rank report answer there =
-    elim (first_or deed deeds (Took rank report answer) there) [
-      | inl same ↦ subst IsHarmlessDeed same is
+harmless_more : (action : Action) (actions : List Action) → IsHarmlessAction action → AreHarmless actions
+    → AreHarmless (action ∷ actions)
+harmless_more action actions is all rank report answer there =
+    elim (first_or action actions (Took rank report answer) there) [
+      | inl same ↦ subst IsHarmlessAction same is
       | inr later ↦ all rank report answer later
     ]
 
--- ---- what was sent and received agrees, deed by deed
+-- ---- what was sent and received agrees, action by action
 
 -- more was sent and received, and all orders are the same
 kept_by : (o : Outlook) (states : List State) (all all_then : List Told) (heard heard_then : ℕ → List Report)
@@ -128,30 +128,30 @@ kept_by o states all all_then heard heard_then same each t =
       on = λ q. subst (λ (rs : List Report). IsOn o all rs (state_at states q)) (sym (each q)) (t.on q);
     })
 
-module _ (done : List Deed) (old : HubState) (deed : Deed) (new : HubState)
+module _ (done : List Action) (old : CoordinatorState) (action : Action) (new : CoordinatorState)
     (t : IsTrackedBy (left_of done) (λ (q : ℕ). reports_from q done) old.book) where
-  abbrev done_then : List Deed
-  done_then = done ++ deed ∷ []
+  abbrev done_then : List Action
+  done_then = done ++ action ∷ []
 
   abbrev Then : BookState → Type 0
   Then b = IsTrackedBy (left_of done_then) (λ (q : ℕ). reports_from q done_then) b
 
   -- nothing was received
-  unheard : taken_in deed ≡ None → (q : ℕ) → reports_from q done_then ≡ reports_from q done
+  unheard : taken_in action ≡ None → (q : ℕ) → reports_from q done_then ≡ reports_from q done
   unheard none q =
-      reports_push q done deed
+      reports_push q done action
       ∙ ap (λ (delivery : Option Delivery). reports_from q done ++ from_rank q delivery) none
       ∙ append-nil (reports_from q done)
 
   -- no order left the queue
-  unleft : left_in deed ≡ None → left_of done_then ≡ left_of done
+  unleft : left_in action ≡ None → left_of done_then ≡ left_of done
   unleft none =
-      left_push done deed
+      left_push done action
       ∙ ap (λ (told : Option Told). left_of done ++ option_to_list told) none
       ∙ append-nil (left_of done)
 
   -- the book is this, of which all orders are the same
-  silent : (b : BookState) → taken_in deed ≡ None → left_in deed ≡ None → new.book ≡ b
+  silent : (b : BookState) → taken_in action ≡ None → left_in action ≡ None → new.book ≡ b
       → IsTrackedBy (left_of done) (λ (q : ℕ). reports_from q done) b → Then new.book
   silent b untaken none same on =
       subst Then (sym same)
@@ -160,7 +160,7 @@ module _ (done : List Deed) (old : HubState) (deed : Deed) (new : HubState)
       (ap (λ (ts : List Told). ts ++ b.orders) (unleft none)) (unheard untaken) on)
 
   -- an order left the queue
-  left_one : (told : Told) → taken_in deed ≡ None → left_of done_then ≡ left_of done ++ told ∷ []
+  left_one : (told : Told) → taken_in action ≡ None → left_of done_then ≡ left_of done ++ told ∷ []
       → IsOrderTold old.book new.book told → Then new.book
   left_one told untaken left is =
       let b : BookState = record old.book { orders = new.book.orders } in
@@ -171,49 +171,49 @@ module _ (done : List Deed) (old : HubState) (deed : Deed) (new : HubState)
       ∙ ap (λ (ts : List Told). left_of done ++ ts) (sym is.first)) (unheard untaken) t)
 
 -- a report was received
-took_tracked : (done : List Deed) (old : HubState) (r : ℕ) (report : Report) (answer : Heard) (new : HubState)
+took_tracked : (done : List Action) (old : CoordinatorState) (r : ℕ) (report : Report) (answer : Heard) (new : CoordinatorState)
     → IsTaken old new r report answer → IsFair old.book (state_at old.book.ranks r) report
     → IsReportNamed old.book.last report → is_deadly answer ≡ false → answer ≢ Memory
     → IsTrackedBy (left_of done) (λ (q : ℕ). reports_from q done) old.book
     → IsTrackedBy (left_of (done ++ Took r report answer ∷ []))
     (λ (q : ℕ). reports_from q (done ++ Took r report answer ∷ [])) new.book
 took_tracked done old r report answer new does fair named harmless some t =
-    let deed : Deed = Took r report answer in
-    let heard_then : ℕ → List Report = λ q. reports_from q (done ++ deed ∷ []) in
+    let action : Action = Took r report answer in
+    let heard_then : ℕ → List Report = λ q. reports_from q (done ++ action ∷ []) in
     let same : new.book ≡ after_hearing answer r report old.book =
-    ap (λ (s : HubState). s.book) does.rest in
+    ap (λ (s : CoordinatorState). s.book) does.rest in
     let h : HasHeard r report (λ (q : ℕ). reports_from q done) heard_then = record {
-      its = reports_push r done deed
+      its = reports_push r done action
           ∙ ap (λ (yes : Bool). reports_from r done ++ only yes report) (eq-eqb r r refl);
-      others = λ q other. reports_push q done deed
+      others = λ q other. reports_push q done action
           ∙ ap (λ (yes : Bool). reports_from q done ++ only yes report)
           (ne_eqb r q (λ e. other (sym e)))
           ∙ append-nil (reports_from q done);
     } in
-    subst (λ (b : BookState). IsTrackedBy (left_of (done ++ deed ∷ [])) heard_then b) (sym same)
+    subst (λ (b : BookState). IsTrackedBy (left_of (done ++ action ∷ [])) heard_then b) (sym same)
     (subst (λ (ts : List Told). IsTrackedBy ts heard_then (after_hearing answer r report old.book))
-    (sym (left_push done deed ∙ append-nil (left_of done)))
+    (sym (left_push done action ∙ append-nil (left_of done)))
     (heard_so old.book (left_of done) r (λ (q : ℕ). reports_from q done) heard_then report answer h does.there
     does.due fair named harmless some t))
 
--- what a deed needs to be fair
-abbrev IsFairDeed : HubState → Deed → Type 0
-IsFairDeed old (Took r report answer) =
+-- what a action needs to be fair
+abbrev IsFairAction : CoordinatorState → Action → Type 0
+IsFairAction old (Took r report answer) =
     IsFair old.book (state_at old.book.ranks r) report × IsReportNamed old.book.last report
-IsFairDeed old deed = Unit {0}
+IsFairAction old action = Unit {0}
 
-tracked_more : (done : List Deed) (old : HubState) (deed : Deed) (new : HubState) → Does old deed new
-    → IsQuietDeed deed → IsHarmlessDeed deed → IsFairDeed old deed
+tracked_more : (done : List Action) (old : CoordinatorState) (action : Action) (new : CoordinatorState) → NextState old action new
+    → IsQuietAction action → IsHarmlessAction action → IsFairAction old action
     → IsTrackedBy (left_of done) (λ (q : ℕ). reports_from q done) old.book
-    → IsTrackedBy (left_of (done ++ deed ∷ [])) (λ (q : ℕ). reports_from q (done ++ deed ∷ [])) new.book
+    → IsTrackedBy (left_of (done ++ action ∷ [])) (λ (q : ℕ). reports_from q (done ++ action ∷ [])) new.book
 tracked_more done old (Launched q) new does quiet harmless fair t =
-    silent done old (Launched q) new t old.book refl refl (ap (λ (s : HubState). s.book) does.1) t
+    silent done old (Launched q) new t old.book refl refl (ap (λ (s : CoordinatorState). s.book) does.1) t
 tracked_more done old (SetUp q bytes) new does quiet harmless fair t =
-    silent done old (SetUp q bytes) new t old.book refl refl (ap (λ (s : HubState). s.book) does.rest) t
+    silent done old (SetUp q bytes) new t old.book refl refl (ap (λ (s : CoordinatorState). s.book) does.rest) t
 tracked_more done old (Closed q) new does quiet harmless fair t =
-    silent done old (Closed q) new t old.book refl refl (ap (λ (s : HubState). s.book) does.rest) t
+    silent done old (Closed q) new t old.book refl refl (ap (λ (s : CoordinatorState). s.book) does.rest) t
 tracked_more done old (Came q bytes) new does quiet harmless fair t =
-    silent done old (Came q bytes) new t old.book refl refl (ap (λ (s : HubState). s.book) does.rest) t
+    silent done old (Came q bytes) new t old.book refl refl (ap (λ (s : CoordinatorState). s.book) does.rest) t
 tracked_more done old (Took q report answer) new does quiet harmless fair t =
     took_tracked done old q report answer new does fair.0 fair.1 harmless quiet t
 tracked_more done old (Lost q cause) new does quiet harmless fair t = absurd quiet
@@ -234,75 +234,75 @@ tracked_more done old (Unwritten q order) new does quiet harmless fair t = absur
 tracked_more done old (Unfed q bytes) new does quiet harmless fair t = absurd quiet
 tracked_more done old Unread new does quiet harmless fair t = absurd quiet
 tracked_more done old Saved new does quiet harmless fair t =
-    silent done old Saved new t old.book refl refl (ap (λ (s : HubState). s.book) does.rest) t
+    silent done old Saved new t old.book refl refl (ap (λ (s : CoordinatorState). s.book) does.rest) t
 
 -- ---- a course from the beginning
 
 module _ (b : BookState) (faults : ℕ) (unused : IsUnused b) where
-  fair_deed : (done : List Deed) (old : HubState) (deed : Deed) (mid : HubState)
-      → IsCourse (beginning b faults) done old → Does old deed mid → AreWorked mid.said → AreAway done old
-      → IsTrackedBy (left_of done) (λ (q : ℕ). reports_from q done) old.book → IsFairDeed old deed
-  fair_deed done old (Launched q) mid so does worked away t = tt
-  fair_deed done old (SetUp q bytes) mid so does worked away t = tt
-  fair_deed done old (Closed q) mid so does worked away t = tt
-  fair_deed done old (Came q bytes) mid so does worked away t = tt
-  fair_deed done old (Took q report answer) mid so does worked away t = (
+  fair_action : (done : List Action) (old : CoordinatorState) (action : Action) (mid : CoordinatorState)
+      → IsTrace (beginning b faults) done old → NextState old action mid → AreWorked mid.said → AreAway done old
+      → IsTrackedBy (left_of done) (λ (q : ℕ). reports_from q done) old.book → IsFairAction old action
+  fair_action done old (Launched q) mid so does worked away t = tt
+  fair_action done old (SetUp q bytes) mid so does worked away t = tt
+  fair_action done old (Closed q) mid so does worked away t = tt
+  fair_action done old (Came q bytes) mid so does worked away t = tt
+  fair_action done old (Took q report answer) mid so does worked away t = (
     told_fair b faults unused done old mid so q (away q) answer report does (worked q)
         (work_fair b faults unused done old mid so q t answer (worked q) report does),
     report_named b faults unused done old mid so q t answer (worked q) report does,
   )
-  fair_deed done old (Lost q cause) mid so does worked away t = tt
-  fair_deed done old Decided mid so does worked away t = tt
-  fair_deed done old (Sent q order) mid so does worked away t = tt
-  fair_deed done old (Unsent q order) mid so does worked away t = tt
-  fair_deed done old (Passed q order) mid so does worked away t = tt
-  fair_deed done old Broke mid so does worked away t = tt
-  fair_deed done old (Unclosed q) mid so does worked away t = tt
-  fair_deed done old (Halted steps) mid so does worked away t = tt
-  fair_deed done old (Unwritten q order) mid so does worked away t = tt
-  fair_deed done old (Unfed q bytes) mid so does worked away t = tt
-  fair_deed done old Unread mid so does worked away t = tt
-  fair_deed done old Saved mid so does worked away t = tt
+  fair_action done old (Lost q cause) mid so does worked away t = tt
+  fair_action done old Decided mid so does worked away t = tt
+  fair_action done old (Sent q order) mid so does worked away t = tt
+  fair_action done old (Unsent q order) mid so does worked away t = tt
+  fair_action done old (Passed q order) mid so does worked away t = tt
+  fair_action done old Broke mid so does worked away t = tt
+  fair_action done old (Unclosed q) mid so does worked away t = tt
+  fair_action done old (Halted steps) mid so does worked away t = tt
+  fair_action done old (Unwritten q order) mid so does worked away t = tt
+  fair_action done old (Unfed q bytes) mid so does worked away t = tt
+  fair_action done old Unread mid so does worked away t = tt
+  fair_action done old Saved mid so does worked away t = tt
 
-  harmless_deed : (old : HubState) (deed : Deed) (mid : HubState) → Does old deed mid → IsFairDeed old deed
-      → IsHarmlessDeed deed
-  harmless_deed old (Launched q) mid does fair = tt
-  harmless_deed old (SetUp q bytes) mid does fair = tt
-  harmless_deed old (Closed q) mid does fair = tt
-  harmless_deed old (Came q bytes) mid does fair = tt
-  harmless_deed old (Took q report answer) mid does fair = fair_lives old.book q report answer does.due fair.0
-  harmless_deed old (Lost q cause) mid does fair = tt
-  harmless_deed old Decided mid does fair = tt
-  harmless_deed old (Sent q order) mid does fair = tt
-  harmless_deed old (Unsent q order) mid does fair = tt
-  harmless_deed old (Passed q order) mid does fair = tt
-  harmless_deed old Broke mid does fair = tt
-  harmless_deed old (Unclosed q) mid does fair = tt
-  harmless_deed old (Halted steps) mid does fair = tt
-  harmless_deed old (Unwritten q order) mid does fair = tt
-  harmless_deed old (Unfed q bytes) mid does fair = tt
-  harmless_deed old Unread mid does fair = tt
-  harmless_deed old Saved mid does fair = tt
+  harmless_action : (old : CoordinatorState) (action : Action) (mid : CoordinatorState) → NextState old action mid → IsFairAction old action
+      → IsHarmlessAction action
+  harmless_action old (Launched q) mid does fair = tt
+  harmless_action old (SetUp q bytes) mid does fair = tt
+  harmless_action old (Closed q) mid does fair = tt
+  harmless_action old (Came q bytes) mid does fair = tt
+  harmless_action old (Took q report answer) mid does fair = fair_lives old.book q report answer does.due fair.0
+  harmless_action old (Lost q cause) mid does fair = tt
+  harmless_action old Decided mid does fair = tt
+  harmless_action old (Sent q order) mid does fair = tt
+  harmless_action old (Unsent q order) mid does fair = tt
+  harmless_action old (Passed q order) mid does fair = tt
+  harmless_action old Broke mid does fair = tt
+  harmless_action old (Unclosed q) mid does fair = tt
+  harmless_action old (Halted steps) mid does fair = tt
+  harmless_action old (Unwritten q order) mid does fair = tt
+  harmless_action old (Unfed q bytes) mid does fair = tt
+  harmless_action old Unread mid does fair = tt
+  harmless_action old Saved mid does fair = tt
 
-  all_harmless : (said : List Exchange) → AreAlwaysWorked said → (done : List Deed) (old : HubState)
-      (deeds : List Deed) (new : HubState) → IsCourse (beginning b faults) done old
-      → IsCourse old deeds new → said ≡ new.said → AreQuiet deeds → AreAway done old
-      → IsTrackedBy (left_of done) (λ (q : ℕ). reports_from q done) old.book → AreHarmless deeds
-  all_harmless said worked done old [] new so course ends quiet away t =
+  all_harmless : (said : List Exchange) → AreAlwaysWorked said → (done : List Action) (old : CoordinatorState)
+      (actions : List Action) (new : CoordinatorState) → IsTrace (beginning b faults) done old
+      → IsTrace old actions new → said ≡ new.said → AreQuiet actions → AreAway done old
+      → IsTrackedBy (left_of done) (λ (q : ℕ). reports_from q done) old.book → AreHarmless actions
+  all_harmless said worked done old [] new so trace ends quiet away t =
       λ rank report answer there. absurd (nothing_in (Took rank report answer) there)
-  all_harmless said worked done old (deed ∷ deeds) new so (mid, does, rest) ends quiet away t =
-      let so_far = course_more (beginning b faults) done old mid deed so does in
-      let here = traffic b faults unused (done ++ deed ∷ []) mid so_far 0 in
-      let later = traffic_is mid.book.settings.gap 0 mid deeds new refl here.fit rest in
-      let fair = fair_deed done old deed mid so does
+  all_harmless said worked done old (action ∷ actions) new so (mid, does, rest) ends quiet away t =
+      let so_far = trace_more (beginning b faults) done old mid action so does in
+      let here = traffic b faults unused (done ++ action ∷ []) mid so_far 0 in
+      let later = traffic_is mid.book.settings.gap 0 mid actions new refl here.fit rest in
+      let fair = fair_action done old action mid so does
       (worked mid.said later.more (ends ∙ later.grown)) away t in
-      let harmless = harmless_deed old deed mid does fair in
-      let is_quiet = quiet deed (in_front deed deeds) in
-      harmless_more deed deeds harmless
-      (all_harmless said worked (done ++ deed ∷ []) mid deeds new so_far rest ends
-      (λ one there. quiet one (behind deed deeds one there))
-      (away_more done old deed mid does is_quiet harmless away)
-      (tracked_more done old deed mid does is_quiet harmless fair t))
+      let harmless = harmless_action old action mid does fair in
+      let is_quiet = quiet action (in_front action actions) in
+      harmless_more action actions harmless
+      (all_harmless said worked (done ++ action ∷ []) mid actions new so_far rest ends
+      (λ one there. quiet one (behind action actions one there))
+      (away_more done old action mid does is_quiet harmless away)
+      (tracked_more done old action mid does is_quiet harmless fair t))
 
 -- ---- at the beginning
 
@@ -332,8 +332,8 @@ first_tracked b unused away = record {
 
 pub calm_workers_live : CalmWorkersLive
 calm_workers_live b faults now come c rank cause =
-    let quiet = course_quiet b faults now come c in
-    let deadly = answer_of_cause rank come.deeds quiet cause in
-    let harmless = all_harmless b faults c.unused now.said c.worked [] (beginning b faults) come.deeds now refl
-    come.course refl quiet (λ r none. is_away (state_at b.ranks r) (c.away r)) (first_tracked b c.unused c.away) in
+    let quiet = trace_quiet b faults now come c in
+    let deadly = answer_of_cause rank come.actions quiet cause in
+    let harmless = all_harmless b faults c.unused now.said c.worked [] (beginning b faults) come.actions now refl
+    come.trace refl quiet (λ r none. is_away (state_at b.ranks r) (c.away r)) (first_tracked b c.unused c.away) in
     false≢true (sym (harmless rank deadly.report deadly.answer deadly.among) ∙ deadly.deadly)

@@ -15,40 +15,40 @@ use Rattle.ug_world.specs.declared.playing.Halt.{Halt}
 use Rattle.ug_world.specs.declared.playing.Halt.TheVariants.{NoSuch, Memory}
 use Rattle.ug_world.specs.declared.schedule.Played.{Played}
 use Rattle.ug_world.specs.Events.{IsMissing, report_of, sent_by}
-use Rattle.ug_world.specs.Worlds.{Happens, IsCourse, IsHeard, World, end_of, opening, told_first}
+use Rattle.ug_world.specs.Worlds.{Happens, IsTrace, IsHeard, World, end_of, opening, told_first}
 use Rattle.ug_world.specs.Plays.{AreAllThere, IsAfter, IsLeftBy, IsPlayed, IsStopped}
 use Rattle.ug_world.specs.Halts.{IsHalted, fault_of}
 
 -- the events happened, one after another, and lead to this world
 pub record IsUnderWay (b : BookState) (events : List Event) (world : World) : Type 0 where
-  pub course : List World
-  pub happened : IsCourse (opening b []) events course
-  pub ends : end_of (opening b []) course ≡ world
+  pub trace : List World
+  pub happened : IsTrace (opening b []) events trace
+  pub ends : end_of (opening b []) trace ≡ world
   pub wide : length world.book.ranks ≡ length b.ranks
 
 -- ---- one event more
 
-course_more : (old new : World) (events : List Event) (event : Event) (course : List World)
-    → IsCourse old events course → Happens (end_of old course) event new
-    → IsCourse old (events ++ event ∷ []) (course ++ new ∷ [])
-course_more old new [] event [] t h = (h, tt)
-course_more old new (first ∷ events) event (next ∷ course) t h =
-    (t.0, course_more next new events event course t.1 h)
-course_more old new [] event (next ∷ course) t h = absurd t
-course_more old new (first ∷ events) event [] t h = absurd t
+trace_more : (old new : World) (events : List Event) (event : Event) (trace : List World)
+    → IsTrace old events trace → Happens (end_of old trace) event new
+    → IsTrace old (events ++ event ∷ []) (trace ++ new ∷ [])
+trace_more old new [] event [] t h = (h, tt)
+trace_more old new (first ∷ events) event (next ∷ trace) t h =
+    (t.0, trace_more next new events event trace t.1 h)
+trace_more old new [] event (next ∷ trace) t h = absurd t
+trace_more old new (first ∷ events) event [] t h = absurd t
 
-end_more : (old new : World) (course : List World) → end_of old (course ++ new ∷ []) ≡ new
+end_more : (old new : World) (trace : List World) → end_of old (trace ++ new ∷ []) ≡ new
 end_more old new [] = refl
-end_more old new (next ∷ course) = end_more next new course
+end_more old new (next ∷ trace) = end_more next new trace
 
 pub under_way_more : (b : BookState) (old new : World) (events : List Event) (event : Event)
     → IsUnderWay b events old → Happens old event new
     → length new.book.ranks ≡ length old.book.ranks → IsUnderWay b (events ++ event ∷ []) new
 under_way_more b old new events event t h wide = record {
-  course = t.course ++ new ∷ [];
-  happened = course_more (opening b []) new events event t.course t.happened
+  trace = t.trace ++ new ∷ [];
+  happened = trace_more (opening b []) new events event t.trace t.happened
       (subst (λ w. Happens w event new) (sym t.ends) h);
-  ends = end_more (opening b []) new t.course;
+  ends = end_more (opening b []) new t.trace;
   wide = wide ∙ t.wide;
 }
 
@@ -69,14 +69,14 @@ sends old new (Gone rank) e = ap (λ (w : World). w.sent) e ∙ sym (append-nil 
 sends old new Decide t = ap (λ (w : World). w.sent) t.rest ∙ sym (append-nil old.sent)
 sends old new Tell e = ap (λ (w : World). w.sent) e ∙ told_sends old.book.orders old
 
-pub sent_so : (old : World) (events : List Event) (course : List World)
-    → IsCourse old events course → (end_of old course).sent ≡ old.sent ++ sent_by events
+pub sent_so : (old : World) (events : List Event) (trace : List World)
+    → IsTrace old events trace → (end_of old trace).sent ≡ old.sent ++ sent_by events
 sent_so old [] [] t = sym (append-nil old.sent)
-sent_so old (event ∷ events) (new ∷ course) t =
-    sent_so new events course t.1
+sent_so old (event ∷ events) (new ∷ trace) t =
+    sent_so new events trace t.1
     ∙ (ap (λ reports. reports ++ sent_by events) (sends old new event t.0)
     ∙ append_assoc old.sent (report_of event) (sent_by events))
-sent_so old [] (new ∷ course) t = absurd t
+sent_so old [] (new ∷ trace) t = absurd t
 sent_so old (event ∷ events) [] t = absurd t
 
 -- ---- what was received was sent
@@ -88,32 +88,32 @@ record IsMissingFrom (earlier : ℕ) (events : List Event) (k place : ℕ) : Typ
   few : earlier + length (sent_by (take k events)) ≤ place
 
 -- no event before the last of a course receives where nothing was sent
-none_from : (old : World) (events : List Event) (done : ℕ) (course : List World)
-    → IsCourse old (take done events) course → (k place : ℕ) → k < done
+none_from : (old : World) (events : List Event) (done : ℕ) (trace : List World)
+    → IsTrace old (take done events) trace → (k place : ℕ) → k < done
     → IsMissingFrom (length old.sent) events k place → ⊥
-none_from old events zero course t k place l m = omega (arith, l)
-none_from old [] (suc done) course t k place l m = none-some _ m.hears
+none_from old events zero trace t k place l m = omega (arith, l)
+none_from old [] (suc done) trace t k place l m = none-some _ m.hears
 none_from old (event ∷ events) (suc done) [] t k place l m = t
-none_from old (event ∷ events) (suc done) (new ∷ course) t zero place l m =
+none_from old (event ∷ events) (suc done) (new ∷ trace) t zero place l m =
     let is : event ≡ Hear place m.rank = same_Some event (Hear place m.rank) m.hears in
     let heard = subst (λ e. Happens old e new) is t.0 in
     let there = slice_get_within old.sent place heard.report heard.there in
     omega (arith, there, m.few)
-none_from old (event ∷ events) (suc done) (new ∷ course) t (suc k) place l m =
+none_from old (event ∷ events) (suc done) (new ∷ trace) t (suc k) place l m =
     let sent = ap (λ (reports : List Report). length reports) (sends old new event t.0) in
     let parts = length-append old.sent (report_of event) in
     let all = length-append (report_of event) (sent_by (take k events)) in
-    none_from new events done course t.1 k place (omega (arith, l)) (record {
+    none_from new events done trace t.1 k place (omega (arith, l)) (record {
       rank = m.rank;
       hears = m.hears;
       few = omega (arith, m.few, sent, parts, all);
     })
 
-pub none_before : (b : BookState) (events : List Event) (done : ℕ) (course : List World)
-    → IsCourse (opening b []) (take done events) course → (k place : ℕ) → k < done
+pub none_before : (b : BookState) (events : List Event) (done : ℕ) (trace : List World)
+    → IsTrace (opening b []) (take done events) trace → (k place : ℕ) → k < done
     → IsMissing events k place → ⊥
-none_before b events done course t k place l m =
-    none_from (opening b []) events done course t k place l
+none_before b events done trace t k place l m =
+    none_from (opening b []) events done trace t k place l
     (record { rank = m.rank; hears = m.hears; few = omega (arith, m.few) })
 
 -- ---- the end of a play
@@ -122,7 +122,7 @@ module _ (b : BookState) (events : List Event) (done : ℕ) (old : World)
     (t : IsUnderWay b (take done events) old) where
   -- the next event left what it left
   pub after_so : (new : BookState) → IsLeftBy (slice_get events done) old.book new
-      → IsAfter b events done t.course new
+      → IsAfter b events done t.trace new
   after_so new left = record {
     happened = t.happened;
     stands = subst (λ w. IsLeftBy (slice_get events done) w.book new) (sym t.ends) left;
@@ -130,7 +130,7 @@ module _ (b : BookState) (events : List Event) (done : ℕ) (old : World)
 
   few_sent : length (sent_by (take done events)) ≡ length old.sent
   few_sent = ap (λ (reports : List Report). length reports)
-      (sym (sent_so (opening b []) (take done events) t.course t.happened)
+      (sym (sent_so (opening b []) (take done events) t.trace t.happened)
       ∙ ap (λ (w : World). w.sent) t.ends)
 
   -- it halted
@@ -141,7 +141,7 @@ module _ (b : BookState) (events : List Event) (done : ℕ) (old : World)
       let next = is ∙ ap Some h.0.hears in
       record {
         done = done;
-        course = t.course;
+        trace = t.trace;
         after = after_so new.book (subst (λ o. IsLeftBy o old.book new.book) (sym next)
             (ap (λ (w : World). w.book) h.1));
         missing = record {
@@ -149,11 +149,11 @@ module _ (b : BookState) (events : List Event) (done : ℕ) (old : World)
           hears = next;
           few = omega (arith, few_sent, h.0.few);
         };
-        first = λ k other before. none_before b events done t.course t.happened k other before;
+        first = λ k other before. none_before b events done t.trace t.happened k other before;
       }
   halted_so new event Memory l is h = record {
     there = l;
-    course = t.course;
+    trace = t.trace;
     after = after_so new.book (subst (λ o. IsLeftBy o old.book new.book) (sym is) h);
   }
 
@@ -166,7 +166,7 @@ module _ (b : BookState) (events : List Event) (done : ℕ) (world : World)
   pub played_so : (played : Played) → played.book ≡ world.book → played.replies ≡ world.replies
       → IsPlayed b events played
   played_so played book replies = record {
-    course = whole.course;
+    trace = whole.trace;
     after = after_so b events (length events) world whole played.book
         (subst (λ o. IsLeftBy o world.book played.book)
         (sym (slice_get_past events (length events) (omega arith))) book);
@@ -175,7 +175,7 @@ module _ (b : BookState) (events : List Event) (done : ℕ) (world : World)
 
   pub all_there : AreAllThere events
   all_there k place m =
-      none_before b events (length events) whole.course whole.happened k place
+      none_before b events (length events) whole.trace whole.happened k place
       (slice_get_within events k (Hear place m.rank) m.hears) m
 
 -- ---- one report received

@@ -17,11 +17,11 @@ use Rattle.ug_frames.specs.Spelling.{framed}
 use Rattle.ug_frames.proofs.Fronts.{framed_long, told_is, unique}
 use Rattle.ug_frames.specs.ReportReading.{report_in}
 use Rattle.ug_frames.proofs.ReportReaders.{body_of, report_small, report_whole}
-use Rattle.ug_serve.specs.Courses.{IsCourse, ServerState, beginning}
-use Rattle.ug_serve.specs.Deeds.{Deed, Came, Took, Told}
+use Rattle.ug_serve.specs.Traces.{IsTrace, ServerState, beginning}
+use Rattle.ug_serve.specs.Actions.{Action, Came, Took, Told}
 use Rattle.ug_serve.specs.Queues.{told_in}
 use Rattle.ug_serve.specs.Serving.{IsPartTold}
-use Rattle.ug_serve.specs.Staffs.{IsWorked, heard_at}
+use Rattle.ug_serve.specs.SimWorkers.{IsWorked, heard_at}
 use Rattle.ug_serve.proofs.Heard.{front_of, one_way}
 use Rattle.ug_serve.proofs.Queues.{told_more, told_still}
 
@@ -97,19 +97,19 @@ record IsTold (said : List Said) : Type 0 where
   carried : All reports.IsCarried all
   parts : told_in said ≡ flat_map reports.spelled all
 
-told_by : (a : ServerState) (deeds : List Deed) (b : ServerState) → IsCourse a deeds b → IsTold a.said → IsTold b.said
+told_by : (a : ServerState) (actions : List Action) (b : ServerState) → IsTrace a actions b → IsTold a.said → IsTold b.said
 told_by a [] b same t = subst (λ (s : ServerState). IsTold s.said) (sym same) t
-told_by a (Came bytes ∷ deeds) b (mid, does, more) t = told_by mid deeds b more (record {
+told_by a (Came bytes ∷ actions) b (mid, does, more) t = told_by mid actions b more (record {
   all = t.all;
   carried = t.carried;
   parts = ap (λ (s : ServerState). told_in s.said) does ∙ told_still a.said bytes ∙ t.parts;
 })
-told_by a (Took order ∷ deeds) b (mid, does, more) t = told_by mid deeds b more (record {
+told_by a (Took order ∷ actions) b (mid, does, more) t = told_by mid actions b more (record {
   all = t.all;
   carried = t.carried;
   parts = ap (λ (s : List Said). told_in s) does.said ∙ t.parts;
 })
-told_by a (Told report ∷ deeds) b (mid, does, more) t = told_by mid deeds b more (record {
+told_by a (Told report ∷ actions) b (mid, does, more) t = told_by mid actions b more (record {
   all = t.all ++ report ∷ [];
   carried = All-append reports.IsCarried t.all (report ∷ []) t.carried
       (All-cons reports.IsCarried report [] does.carried (All-nil reports.IsCarried));
@@ -143,7 +143,7 @@ pub never_bad : (said : List Exchange) (rank : ℕ) (heard : List Report) (rest 
     → IsDecoded reports.IsCarried reports.spelled rest Bad → ⊥
 never_bad said rank heard rest w carried parts bad =
     let t = telling w.now w.shown
-    (told_by beginning w.come.deeds w.now w.come.course
+    (told_by beginning w.come.actions w.now w.come.trace
     (record { all = []; carried = All-nil reports.IsCarried; parts = refl })) w.shows in
     let tail = w.behind ++ t.rest in
     let whole : flat_map reports.spelled heard ++ (rest ++ tail) ≡ flat_map reports.spelled t.all =

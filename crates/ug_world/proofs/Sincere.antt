@@ -23,11 +23,11 @@ use Rattle.ug_rules.specs.declared.heard.Heard.{Heard}
 use Rattle.ug_rules.specs.declared.settings.Settings.{Settings}
 use Rattle.ug_rules.specs.declared.told.Told.{Told}
 use Rattle.ug_rules.specs.State.{BookState}
-use Rattle.ug_coord.specs.Deeds.{Broke, Came, Closed, Decided, Deed, Halted, IsCourse, IsTaken, Launched, Lost, Passed}
-use Rattle.ug_coord.specs.Deeds.{Sent, SetUp, HubState, Took, Unclosed, Unfed, Unread, Unsent, Unwritten}
-use Rattle.ug_coord.specs.Deeds.{Kept as Saved}
-use Rattle.ug_coord.specs.Hubs.{beginning}
-use Rattle.ug_serve.specs.Staffs.{IsWorked}
+use Rattle.ug_coord.specs.Actions.{Broke, Came, Closed, Decided, Action, Halted, IsTrace, IsTaken, Launched, Lost, Passed}
+use Rattle.ug_coord.specs.Actions.{Sent, SetUp, CoordinatorState, Took, Unclosed, Unfed, Unread, Unsent, Unwritten}
+use Rattle.ug_coord.specs.Actions.{Kept as Saved}
+use Rattle.ug_coord.specs.Coordinators.{beginning}
+use Rattle.ug_serve.specs.SimWorkers.{IsWorked}
 use Rattle.ug_serve.specs.Transcripts.{order_of}
 use Rattle.ug_serve.proofs.Counted.{IsCutoffKnown, IsDoneSpoken, IsHandSpoken, IsUnderSent, done_spoken, hand_spoken, hands_under, under_spoken}
 use Rattle.ug_serve.proofs.Honesty.{nothing_in}
@@ -55,8 +55,8 @@ abbrev NoneSets : List Told → Type 0
 NoneSets left = (rank : ℕ) (gap : ℤ) (bytes : List ℕ)
     → Contains left (record { rank = rank; order = Setup gap bytes }) → ⊥
 
-gap_in : (gap : ℤ) (r : ℕ) (own : ℤ) (bytes : List ℕ) (deed : Deed) → NoneSets (option_to_list (left_in deed))
-    → Contains (to_rank r (sent_in gap deed)) (Setup own bytes) → own ≡ gap
+gap_in : (gap : ℤ) (r : ℕ) (own : ℤ) (bytes : List ℕ) (action : Action) → NoneSets (option_to_list (left_in action))
+    → Contains (to_rank r (sent_in gap action)) (Setup own bytes) → own ≡ gap
 gap_in gap r own bytes (Launched q) none there = absurd (nothing_in _ there)
 gap_in gap r own bytes (SetUp q record_bytes) none there =
     ap (gap_or own) (sym (only_there (eqb q r) (Setup gap record_bytes) (Setup own bytes) there).1)
@@ -80,17 +80,17 @@ gap_in gap r own bytes (Unfed q heard) none there = absurd (nothing_in _ there)
 gap_in gap r own bytes Unread none there = absurd (nothing_in _ there)
 gap_in gap r own bytes Saved none there = absurd (nothing_in _ there)
 
-gap_sent : (gap : ℤ) (r : ℕ) (own : ℤ) (bytes : List ℕ) (deeds : List Deed) → NoneSets (left_of deeds)
-    → Contains (orders_to gap r deeds) (Setup own bytes) → own ≡ gap
+gap_sent : (gap : ℤ) (r : ℕ) (own : ℤ) (bytes : List ℕ) (actions : List Action) → NoneSets (left_of actions)
+    → Contains (orders_to gap r actions) (Setup own bytes) → own ≡ gap
 gap_sent gap r own bytes [] none there = absurd (nothing_in _ there)
-gap_sent gap r own bytes (deed ∷ deeds) none there =
-    elim (Contains-append_cases (to_rank r (sent_in gap deed)) (orders_to gap r deeds) (Setup own bytes) there) [
-      | inl here ↦ gap_in gap r own bytes deed
+gap_sent gap r own bytes (action ∷ actions) none there =
+    elim (Contains-append_cases (to_rank r (sent_in gap action)) (orders_to gap r actions) (Setup own bytes) there) [
+      | inl here ↦ gap_in gap r own bytes action
           (λ rank g bs left. none rank g bs
-          (Contains-append_left (option_to_list (left_in deed)) (left_of deeds) _ left)) here
-      | inr later ↦ gap_sent gap r own bytes deeds
+          (Contains-append_left (option_to_list (left_in action)) (left_of actions) _ left)) here
+      | inr later ↦ gap_sent gap r own bytes actions
           (λ rank g bs left. none rank g bs
-          (Contains-append_right (option_to_list (left_in deed)) (left_of deeds) _ left)) later
+          (Contains-append_right (option_to_list (left_in action)) (left_of actions) _ left)) later
     ]
 
 -- ---- when a hand or a done is received
@@ -106,8 +106,8 @@ ticket_or other (Some ticket) = ticket
 same_own : (own ticket : Ticket) → Some own ≡ Some ticket → own ≡ ticket
 same_own own ticket same = ap (ticket_or own) same
 
-module _ (b : BookState) (faults : ℕ) (unused : IsUnused b) (done : List Deed) (old mid : HubState)
-    (so : IsCourse (beginning b faults) done old) (r : ℕ)
+module _ (b : BookState) (faults : ℕ) (unused : IsUnused b) (done : List Action) (old mid : CoordinatorState)
+    (so : IsTrace (beginning b faults) done old) (r : ℕ)
     (t : IsTrackedBy (left_of done) (λ (q : ℕ). reports_from q done) old.book) where
   abbrev o : Outlook
   o = outlook_of old.book

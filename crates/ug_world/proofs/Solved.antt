@@ -21,9 +21,9 @@ use Rattle.ug_restart.specs.declared.outcome.End.{End}
 use Rattle.ug_restart.specs.declared.outcome.End.TheVariants.{Answered, Limited, Stranded, Memory}
 use Rattle.ug_restart.specs.Outcomes.{IfAnswered, IfBook, IfLimited, IsLimited, IsRight, IsStranded}
 use Rattle.ug_coord.specs.Ends.{AllDead, is_ended}
-use Rattle.ug_coord.specs.Hubs.{HasCoordinated}
+use Rattle.ug_coord.specs.Coordinators.{HasCoordinated}
 use Rattle.ug_coord.specs.Keeping.{IsKeptSafe}
-use Rattle.ug_serve.specs.Staffs.{AreAlwaysWorked}
+use Rattle.ug_serve.specs.SimWorkers.{AreAlwaysWorked}
 use Rattle.ug_world.specs.Calm.{CalmWorkersLive}
 use Rattle.ug_world.specs.Laws.{LosesNothing}
 use Rattle.ug_world.specs.Workers.{CoordinatorsOfWorkersLoseNothing, HasSolved}
@@ -76,7 +76,7 @@ dead_anyway b rank dead = elim (cases_lt rank (length b.ranks)) [
 
 module _ (o : Opening) (end : End) (before : ℕ) (after : CrewSeen) (said : List Exchange) (Tried : ℕ → Type 0) (Safe : Type 0)
     (h : HasCoordinated (opening_book o) before after end Tried Safe) (told : after.said ≡ Some said) where
-  -- what was received and reported in the deeds is what the crew says
+  -- what was received and reported in the actions is what the crew says
   was_said : AreAlwaysWorked said → AreAlwaysWorked h.now.said
   was_said worked = subst AreAlwaysWorked
       (subst (λ (shown : Option (List Exchange)). IfSome shown (λ s. s ≡ h.now.said)) told h.shown) worked

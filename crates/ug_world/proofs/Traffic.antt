@@ -1,4 +1,4 @@
--- What goes between a coordinator and its crew in a course of deeds.
+-- What goes between a coordinator and its crew in a course of actions.
 use Rattle.std.proofs.Common.{◌≡◌, ◌≢◌, ◌⊎◌, inl, inr, eqb, ℕ, ℤ, ◌<◌, Bool, true, false, List, [], ◌∷◌, ◌++◌, append_assoc, append-nil, length, Option, Some, None, refl, sym, ap, subst, ◌∙◌, arith}
 use Rattle.std.specs.Prelude.{All, Contains, slice_index_or, slice_set}
 use Rattle.std.specs.List.{flat_map}
@@ -23,33 +23,33 @@ use Rattle.ug_rules.specs.declared.settings.Settings.{Settings}
 use Rattle.ug_rules.specs.declared.told.Told.{Told}
 use Rattle.ug_rules.specs.State.{BookState}
 use Rattle.ug_rules.specs.Deaths.{killed}
-use Rattle.ug_coord.specs.Deeds.{Broke, Came, Cause, Closed, Decided, Deed, Does, Ended, Failed, Halted, IsCourse, IsLost, IsTaken, IsUnsent, Launched, Lost, Nonsense, Passed}
-use Rattle.ug_coord.specs.Deeds.{Sent, SetUp, HubState, Took, Unclosed, Unfed, Unread, Unsent, Unwritten, lives_at, stream_at}
-use Rattle.ug_coord.specs.Deeds.{Kept as Saved}
-use Rattle.ug_serve.specs.Staffs.{heard_at, told_at}
+use Rattle.ug_coord.specs.Actions.{Broke, Came, Cause, Closed, Decided, Action, NextState, Ended, Failed, Halted, IsTrace, IsLost, IsTaken, IsUnsent, Launched, Lost, Nonsense, Passed}
+use Rattle.ug_coord.specs.Actions.{Sent, SetUp, CoordinatorState, Took, Unclosed, Unfed, Unread, Unsent, Unwritten, lives_at, stream_at}
+use Rattle.ug_coord.specs.Actions.{Kept as Saved}
+use Rattle.ug_serve.specs.SimWorkers.{heard_at, told_at}
 use Rattle.ug_serve.proofs.Heard.{one_way}
 use Rattle.ug_serve.proofs.Honesty.{nothing_in}
-use Rattle.ug_serve.proofs.Staffs.{heard_by, heard_its, heard_others, heard_same, heard_told, told_at_on, told_heard, told_its, told_others, told_same}
+use Rattle.ug_serve.proofs.SimWorkers.{heard_by, heard_its, heard_others, heard_same, heard_told, told_at_on, told_heard, told_its, told_others, told_same}
 use Rattle.ug_serve.proofs.Told.{first_or, in_front}
 use Rattle.ug_serve.proofs.Wires.{fed_so}
 use Rattle.ug_world.proofs.Numbered.{Grows, decided_grows, grows_both, grows_itself, grows_left, heard_grows, killed_grows, stands_grows}
 
--- ---- what a deed sends and receives
+-- ---- what a action sends and receives
 
 -- the order that was put in a frame for a rank, if one was; one that comes first has this gap
-abbrev pub sent_in : ℤ → Deed → Option Told
+abbrev pub sent_in : ℤ → Action → Option Told
 sent_in gap (SetUp rank bytes) = Some (record { rank = rank; order = Setup gap bytes })
 sent_in gap (Closed rank) = Some (record { rank = rank; order = End })
 sent_in gap (Sent rank order) = Some (record { rank = rank; order = order })
-sent_in gap deed = None
+sent_in gap action = None
 
 -- the order that left the queue, if one did
-abbrev pub left_in : Deed → Option Told
+abbrev pub left_in : Action → Option Told
 left_in (Sent rank order) = Some (record { rank = rank; order = order })
 left_in (Unsent rank order) = Some (record { rank = rank; order = order })
 left_in (Passed rank order) = Some (record { rank = rank; order = order })
 left_in (Unwritten rank order) = Some (record { rank = rank; order = order })
-left_in deed = None
+left_in action = None
 
 -- a report that came from a rank
 pub record Delivery : Type 0 where
@@ -57,9 +57,9 @@ pub record Delivery : Type 0 where
   pub report : Report
 
 -- the one that was received, if one was
-abbrev pub taken_in : Deed → Option Delivery
+abbrev pub taken_in : Action → Option Delivery
 taken_in (Took rank report answer) = Some (record { rank = rank; report = report })
-taken_in deed = None
+taken_in action = None
 
 -- the thing, where it is so
 abbrev pub only : {X : Type 0} → Bool → X → List X
@@ -79,24 +79,24 @@ report_in None = []
 report_in (Some delivery) = delivery.report ∷ []
 
 -- the orders that were put in frames for the rank
-abbrev pub orders_to : ℤ → ℕ → List Deed → List Order
+abbrev pub orders_to : ℤ → ℕ → List Action → List Order
 orders_to gap r [] = []
-orders_to gap r (deed ∷ deeds) = to_rank r (sent_in gap deed) ++ orders_to gap r deeds
+orders_to gap r (action ∷ actions) = to_rank r (sent_in gap action) ++ orders_to gap r actions
 
 -- the reports that were received from it
-abbrev pub reports_from : ℕ → List Deed → List Report
+abbrev pub reports_from : ℕ → List Action → List Report
 reports_from r [] = []
-reports_from r (deed ∷ deeds) = from_rank r (taken_in deed) ++ reports_from r deeds
+reports_from r (action ∷ actions) = from_rank r (taken_in action) ++ reports_from r actions
 
 -- all orders that left the queue
-abbrev pub left_of : List Deed → List Told
+abbrev pub left_of : List Action → List Told
 left_of [] = []
-left_of (deed ∷ deeds) = option_to_list (left_in deed) ++ left_of deeds
+left_of (action ∷ actions) = option_to_list (left_in action) ++ left_of actions
 
 -- all reports that were received
-abbrev pub heard_of : List Deed → List Report
+abbrev pub heard_of : List Action → List Report
 heard_of [] = []
-heard_of (deed ∷ deeds) = report_in (taken_in deed) ++ heard_of deeds
+heard_of (action ∷ actions) = report_in (taken_in action) ++ heard_of actions
 
 pub only_there : {X : Type 0} → (b : Bool) (x y : X) → Contains (only b x) y → (b ≡ true) × (x ≡ y)
 only_there true x y there = elim (first_or x [] y there) [
@@ -124,39 +124,39 @@ end_carried = record {
 -- ---- the stream of a rank
 
 -- nothing
-record IsStill (r : ℕ) (old new : HubState) (given : List Report) : Type 0 where
+record IsStill (r : ℕ) (old new : CoordinatorState) (given : List Report) : Type 0 where
   heard : heard_at r new.said ≡ heard_at r old.said
   stream : stream_at new r ≡ stream_at old r
   none : given ≡ []
 
 -- bytes
-record HasFed (r : ℕ) (old new : HubState) (given : List Report) : Type 0 where
+record HasFed (r : ℕ) (old new : CoordinatorState) (given : List Report) : Type 0 where
   bytes : List ℕ
   heard : heard_at r new.said ≡ heard_at r old.said ++ bytes
   stream : stream_at new r ≡ fed (stream_at old r) bytes
   none : given ≡ []
 
 -- a report is read
-record HasGiven (r : ℕ) (old new : HubState) (given : List Report) : Type 0 where
+record HasGiven (r : ℕ) (old new : CoordinatorState) (given : List Report) : Type 0 where
   report : Report
   heard : heard_at r new.said ≡ heard_at r old.said
   is : IsGiven reports.IsCarried reports.spelled (stream_at old r) (stream_at new r) report
   one : given ≡ report ∷ []
 
 -- bytes or none, and nothing is read of it any more
-record HasShut (r : ℕ) (old new : HubState) (given : List Report) : Type 0 where
+record HasShut (r : ℕ) (old new : CoordinatorState) (given : List Report) : Type 0 where
   bytes : List ℕ
   heard : heard_at r new.said ≡ heard_at r old.said ++ bytes
   bad : (stream_at new r).bad ≡ true
   none : given ≡ []
 
-abbrev IsStreamed : ℕ → HubState → HubState → List Report → Type 0
+abbrev IsStreamed : ℕ → CoordinatorState → CoordinatorState → List Report → Type 0
 IsStreamed r old new given =
     IsStill r old new given ⊎ (HasFed r old new given ⊎ (HasGiven r old new given ⊎ HasShut r old new given))
 
 -- the bytes that were received from the rank begin with the frames of these reports, and what is
 -- behind them waits, unless its stream was shut
-pub record IsRead (r : ℕ) (s : HubState) (given : List Report) : Type 0 where
+pub record IsRead (r : ℕ) (s : CoordinatorState) (given : List Report) : Type 0 where
   pub carried : All reports.IsCarried given
   pub rest : List ℕ
   pub parts : heard_at r s.said ≡ flat_map reports.spelled given ++ rest
@@ -171,13 +171,13 @@ fed_back w bytes fine = elim (cases_Bool w.bad) [
   | inr was ↦ was
 ]
 
-no_more : (r : ℕ) (s : HubState) (given more : List Report) → more ≡ [] → IsRead r s given
+no_more : (r : ℕ) (s : CoordinatorState) (given more : List Report) → more ≡ [] → IsRead r s given
     → IsRead r s (given ++ more)
 no_more r s given more none h =
     subst (λ (ms : List Report). IsRead r s (given ++ ms)) (sym none)
     (subst (λ (ms : List Report). IsRead r s ms) (sym (append-nil given)) h)
 
-read_more : (r : ℕ) (old new : HubState) (given more : List Report) → IsStreamed r old new more
+read_more : (r : ℕ) (old new : CoordinatorState) (given more : List Report) → IsStreamed r old new more
     → IsRead r old given → IsRead r new (given ++ more)
 read_more r old new given more (inl t) h = no_more r new given more t.none (record {
   carried = h.carried;
@@ -218,15 +218,15 @@ read_more r old new given more (inr (inr (inr t))) h = no_more r new given more 
   waits = λ fine. absurd (false≢true (sym fine ∙ t.bad));
 })
 
--- ---- one deed
+-- ---- one action
 
 -- each rank has its place and its stream
-abbrev pub Fits : HubState → Type 0
+abbrev pub Fits : CoordinatorState → Type 0
 Fits s = length s.streams ≡ length s.lives
 
--- what a deed does for a rank: an order was put in a frame, one left the queue, a report was
+-- what a action does for a rank: an order was put in a frame, one left the queue, a report was
 -- received
-record IsStep (r : ℕ) (old new : HubState) (sent left : Option Told) (taken : Option Delivery)
+record IsStep (r : ℕ) (old new : CoordinatorState) (sent left : Option Told) (taken : Option Delivery)
     : Type 0 where
   more : List Exchange
   grown : new.said ≡ old.said ++ more
@@ -239,7 +239,7 @@ record IsStep (r : ℕ) (old new : HubState) (sent left : Option Told) (taken : 
   grows : Grows (option_to_list left) old.book new.book
 
 -- the stream of one rank was set
-stream_set : (old new : HubState) (q r : ℕ) (w : Waiting) → new.streams ≡ slice_set old.streams q w
+stream_set : (old new : CoordinatorState) (q r : ℕ) (w : Waiting) → new.streams ≡ slice_set old.streams q w
     → q < length old.streams
     → ((q ≡ r) × (stream_at new r ≡ w)) ⊎ ((q ≢ r) × (stream_at new r ≡ stream_at old r))
 stream_set old new q r w set there = elim (cases_eq q r) [
@@ -256,7 +256,7 @@ stream_set old new q r w set there = elim (cases_eq q r) [
   )
 ]
 
-alive_there : (s : HubState) (q : ℕ) → Fits s → lives_at s q ≡ true → q < length s.streams
+alive_there : (s : CoordinatorState) (q : ℕ) → Fits s → lives_at s q ≡ true → q < length s.streams
 alive_there s q fit alive = elim (cases_lt q (length s.lives)) [
   | inl there ↦ omega (arith, there, fit)
   | inr past ↦ absurd (false≢true (sym (get_or_past s.lives q false past) ∙ alive))
@@ -266,7 +266,7 @@ same_grows : (old new : BookState) → new ≡ old → Grows [] old new
 same_grows old new same = subst (Grows [] old) (sym same) (grows_itself old)
 
 -- nothing was said or read
-silent : (r : ℕ) (old new : HubState) (left : Option Told) → new.said ≡ old.said → new.streams ≡ old.streams
+silent : (r : ℕ) (old new : CoordinatorState) (left : Option Told) → new.said ≡ old.said → new.streams ≡ old.streams
     → length new.lives ≡ length old.lives → Fits old → Grows (option_to_list left) old.book new.book
     → IsStep r old new None left None
 silent r old new left said streams lives fit grows = record {
@@ -297,7 +297,7 @@ told_only r told = elim (cases_eq told.rank r) [
       ∙ ap (λ (b : Bool). flat_map orders.spelled (only b told.order)) (sym (ne_eqb told.rank r apart))
 ]
 
-telling : (r : ℕ) (old new : HubState) (told : Told) (left : Option Told) → orders.IsCarried told.order
+telling : (r : ℕ) (old new : CoordinatorState) (told : Told) (left : Option Told) → orders.IsCarried told.order
     → new.said ≡ old.said ++ told_to told.rank (orders.spelled told.order) → new.streams ≡ old.streams
     → new.lives ≡ old.lives
     → (told.rank ≡ r → Contains (option_to_list left) (record { rank = r; order = told.order })
@@ -324,18 +324,18 @@ telling r old new told left carried said streams lives own fit grows = record {
 }
 
 -- bytes were received, and the stream of their rank was set
-heard_for : (r q : ℕ) (old new : HubState) (bytes : List ℕ) → new.said ≡ old.said ++ heard_from q bytes
+heard_for : (r q : ℕ) (old new : CoordinatorState) (bytes : List ℕ) → new.said ≡ old.said ++ heard_from q bytes
     → q ≡ r → heard_at r new.said ≡ heard_at r old.said ++ bytes
 heard_for r q old new bytes said same =
     ap (heard_at r) said ∙ heard_by r old.said (heard_from q bytes) bytes
     (ap (λ (k : ℕ). heard_at r (heard_from k bytes)) same ∙ heard_its r bytes)
 
-heard_apart : (r q : ℕ) (old new : HubState) (bytes : List ℕ) → new.said ≡ old.said ++ heard_from q bytes
+heard_apart : (r q : ℕ) (old new : CoordinatorState) (bytes : List ℕ) → new.said ≡ old.said ++ heard_from q bytes
     → q ≢ r → heard_at r new.said ≡ heard_at r old.said
 heard_apart r q old new bytes said apart =
     ap (heard_at r) said ∙ heard_same r old.said (heard_from q bytes) (heard_others r q bytes apart)
 
-coming : (r q : ℕ) (old new : HubState) (bytes : List ℕ) (w : Waiting)
+coming : (r q : ℕ) (old new : CoordinatorState) (bytes : List ℕ) (w : Waiting)
     → new.said ≡ old.said ++ heard_from q bytes → new.streams ≡ slice_set old.streams q w
     → new.lives ≡ old.lives → new.book ≡ old.book
     → (q ≡ r → heard_at r new.said ≡ heard_at r old.said ++ bytes → stream_at new r ≡ w → IsStreamed r old new [])
@@ -364,12 +364,12 @@ no_frame report rest carried parts = one_way.short [] (inl (omega arith)) report
   parts = parts;
 })
 
-taking : (r : ℕ) (old new : HubState) (q : ℕ) (report : Report) (answer : Heard)
+taking : (r : ℕ) (old new : CoordinatorState) (q : ℕ) (report : Report) (answer : Heard)
     → IsTaken old new q report answer → Fits old
     → IsStep r old new None None (Some (record { rank = q; report = report }))
 taking r old new q report answer t fit =
-    let streams = ap (λ (s : HubState). s.streams) t.rest in
-    let said = ap (λ (s : HubState). s.said) t.rest in
+    let streams = ap (λ (s : CoordinatorState). s.streams) t.rest in
+    let said = ap (λ (s : CoordinatorState). s.said) t.rest in
     let there : q < length old.streams = elim (cases_lt q (length old.streams)) [
       | inl l ↦ l
       | inr past ↦ absurd (no_frame report t.stream.bytes t.given.carried
@@ -396,13 +396,13 @@ taking r old new q report answer t fit =
         })
       ];
       fit = ap (λ (l : List Waiting). length l) streams ∙ length-set old.streams q t.stream ∙ fit
-          ∙ ap (λ (s : HubState). length s.lives) (sym t.rest);
-      grows = subst (Grows [] old.book) (sym (ap (λ (s : HubState). s.book) t.rest))
+          ∙ ap (λ (s : CoordinatorState). length s.lives) (sym t.rest);
+      grows = subst (Grows [] old.book) (sym (ap (λ (s : CoordinatorState). s.book) t.rest))
           (heard_grows answer q report old.book);
     }
 
 -- a rank is lost
-losing : (r : ℕ) (old new : HubState) (q : ℕ) (more : List Exchange) → new.said ≡ old.said ++ more
+losing : (r : ℕ) (old new : CoordinatorState) (q : ℕ) (more : List Exchange) → new.said ≡ old.said ++ more
     → told_at r more ≡ [] → IsStreamed r old new [] → length new.streams ≡ length old.streams
     → new.lives ≡ slice_set old.lives q false → new.book ≡ killed q old.book → Fits old
     → IsStep r old new None None None
@@ -417,7 +417,7 @@ losing r old new q more said none streamed streams lives book fit = record {
   grows = subst (Grows [] old.book) (sym book) (killed_grows q old.book);
 }
 
-unheard : (r : ℕ) (old new : HubState) → heard_at r new.said ≡ heard_at r old.said → new.streams ≡ old.streams
+unheard : (r : ℕ) (old new : CoordinatorState) → heard_at r new.said ≡ heard_at r old.said → new.streams ≡ old.streams
     → IsStreamed r old new []
 unheard r old new heard streams = inl (record {
   heard = heard;
@@ -425,7 +425,7 @@ unheard r old new heard streams = inl (record {
   none = refl;
 })
 
-nonsense : (r q : ℕ) (old new : HubState) (w : Waiting) (at : ℕ) → new.said ≡ old.said
+nonsense : (r q : ℕ) (old new : CoordinatorState) (w : Waiting) (at : ℕ) → new.said ≡ old.said
     → new.streams ≡ slice_set old.streams q w
     → IsBadAt reports.IsCarried reports.spelled (stream_at old q) w at → IsStreamed r old new []
 nonsense r q old new w at said streams bad = elim (cases_lt q (length old.streams)) [
@@ -441,7 +441,7 @@ nonsense r q old new w at said streams bad = elim (cases_lt q (length old.stream
   | inr past ↦ unheard r old new (ap (heard_at r) said) (streams ∙ set_past old.streams q w past)
 ]
 
-lost_step : (r : ℕ) (old new : HubState) (q : ℕ) (cause : Cause) → IsLost old new q cause → Fits old
+lost_step : (r : ℕ) (old new : CoordinatorState) (q : ℕ) (cause : Cause) → IsLost old new q cause → Fits old
     → IsStep r old new None None None
 lost_step r old new q Ended t fit =
     losing r old new q (Gone q ∷ []) t.why.said refl
@@ -458,117 +458,117 @@ lost_step r old new q Nonsense t fit =
     t.lives t.book fit
 
 -- an order could not be sent
-unsent_grows : (old new : HubState) (rank : ℕ) (order : Order) → IsUnsent old new rank order
+unsent_grows : (old new : CoordinatorState) (rank : ℕ) (order : Order) → IsUnsent old new rank order
     → Grows (record { rank = rank; order = order } ∷ []) old.book new.book
 unsent_grows old new rank order t =
     let told : Told = record { rank = rank; order = order } in
     grows_both (told ∷ []) [] old.book t.without new.book
     (grows_left old.book t.without told t.told.first t.told.rest)
-    (subst (Grows [] t.without) (sym (ap (λ (s : HubState). s.book) t.rest)) (killed_grows rank t.without))
+    (subst (Grows [] t.without) (sym (ap (λ (s : CoordinatorState). s.book) t.rest)) (killed_grows rank t.without))
 
-same_lives : (old new : HubState) → new.lives ≡ old.lives → length new.lives ≡ length old.lives
+same_lives : (old new : CoordinatorState) → new.lives ≡ old.lives → length new.lives ≡ length old.lives
 same_lives old new same = ap (λ (l : List Bool). length l) same
 
-deed_step : (gap : ℤ) (r : ℕ) (old : HubState) (deed : Deed) (new : HubState) → old.book.settings.gap ≡ gap
-    → Fits old → Does old deed new → IsStep r old new (sent_in gap deed) (left_in deed) (taken_in deed)
-deed_step gap r old (Launched rank) new is fit (away, rest) =
-    silent r old new None (ap (λ (s : HubState). s.said) rest) (ap (λ (s : HubState). s.streams) rest)
-    (ap (λ (s : HubState). length s.lives) rest ∙ length-set old.lives rank true) fit
-    (same_grows old.book new.book (ap (λ (s : HubState). s.book) rest))
-deed_step gap r old (SetUp rank bytes) new is fit does =
+action_step : (gap : ℤ) (r : ℕ) (old : CoordinatorState) (action : Action) (new : CoordinatorState) → old.book.settings.gap ≡ gap
+    → Fits old → NextState old action new → IsStep r old new (sent_in gap action) (left_in action) (taken_in action)
+action_step gap r old (Launched rank) new is fit (away, rest) =
+    silent r old new None (ap (λ (s : CoordinatorState). s.said) rest) (ap (λ (s : CoordinatorState). s.streams) rest)
+    (ap (λ (s : CoordinatorState). length s.lives) rest ∙ length-set old.lives rank true) fit
+    (same_grows old.book new.book (ap (λ (s : CoordinatorState). s.book) rest))
+action_step gap r old (SetUp rank bytes) new is fit does =
     subst (λ (g : ℤ). IsStep r old new (Some (record { rank = rank; order = Setup g bytes })) None None) is
     (telling r old new (record { rank = rank; order = Setup old.book.settings.gap bytes }) None does.carried
-    (ap (λ (s : HubState). s.said) does.rest) (ap (λ (s : HubState). s.streams) does.rest)
-    (ap (λ (s : HubState). s.lives) does.rest) (λ same. inr does.its) fit
-    (same_grows old.book new.book (ap (λ (s : HubState). s.book) does.rest)))
-deed_step gap r old (Closed rank) new is fit does =
+    (ap (λ (s : CoordinatorState). s.said) does.rest) (ap (λ (s : CoordinatorState). s.streams) does.rest)
+    (ap (λ (s : CoordinatorState). s.lives) does.rest) (λ same. inr does.its) fit
+    (same_grows old.book new.book (ap (λ (s : CoordinatorState). s.book) does.rest)))
+action_step gap r old (Closed rank) new is fit does =
     telling r old new (record { rank = rank; order = End }) None end_carried
-    (ap (λ (s : HubState). s.said) does.rest) (ap (λ (s : HubState). s.streams) does.rest)
-    (ap (λ (s : HubState). s.lives) does.rest) (λ same. inr tt) fit
-    (same_grows old.book new.book (ap (λ (s : HubState). s.book) does.rest))
-deed_step gap r old (Came rank bytes) new is fit does =
+    (ap (λ (s : CoordinatorState). s.said) does.rest) (ap (λ (s : CoordinatorState). s.streams) does.rest)
+    (ap (λ (s : CoordinatorState). s.lives) does.rest) (λ same. inr tt) fit
+    (same_grows old.book new.book (ap (λ (s : CoordinatorState). s.book) does.rest))
+action_step gap r old (Came rank bytes) new is fit does =
     coming r rank old new bytes (fed (stream_at old rank) bytes)
-    (ap (λ (s : HubState). s.said) does.rest) (ap (λ (s : HubState). s.streams) does.rest)
-    (ap (λ (s : HubState). s.lives) does.rest) (ap (λ (s : HubState). s.book) does.rest)
+    (ap (λ (s : CoordinatorState). s.said) does.rest) (ap (λ (s : CoordinatorState). s.streams) does.rest)
+    (ap (λ (s : CoordinatorState). s.lives) does.rest) (ap (λ (s : CoordinatorState). s.book) does.rest)
     (λ same heard stream. inr (inl (record {
       bytes = bytes;
       heard = heard;
       stream = stream ∙ ap (λ (k : ℕ). fed (stream_at old k) bytes) same;
       none = refl;
     }))) fit does.alive
-deed_step gap r old (Took rank report answer) new is fit does = taking r old new rank report answer does fit
-deed_step gap r old (Lost rank cause) new is fit does = lost_step r old new rank cause does fit
-deed_step gap r old Decided new is fit does =
-    silent r old new None (ap (λ (s : HubState). s.said) does.rest) (ap (λ (s : HubState). s.streams) does.rest)
-    (ap (λ (s : HubState). length s.lives) does.rest) fit (decided_grows old.book new.book does.is)
-deed_step gap r old (Sent rank order) new is fit does =
+action_step gap r old (Took rank report answer) new is fit does = taking r old new rank report answer does fit
+action_step gap r old (Lost rank cause) new is fit does = lost_step r old new rank cause does fit
+action_step gap r old Decided new is fit does =
+    silent r old new None (ap (λ (s : CoordinatorState). s.said) does.rest) (ap (λ (s : CoordinatorState). s.streams) does.rest)
+    (ap (λ (s : CoordinatorState). length s.lives) does.rest) fit (decided_grows old.book new.book does.is)
+action_step gap r old (Sent rank order) new is fit does =
     let told : Told = record { rank = rank; order = order } in
     telling r old new told (Some told) does.carried
-    (ap (λ (s : HubState). s.said) does.rest) (ap (λ (s : HubState). s.streams) does.rest)
-    (ap (λ (s : HubState). s.lives) does.rest)
+    (ap (λ (s : CoordinatorState). s.said) does.rest) (ap (λ (s : CoordinatorState). s.streams) does.rest)
+    (ap (λ (s : CoordinatorState). s.lives) does.rest)
     (λ same. inl (subst (λ (k : ℕ). Contains (told ∷ []) (record { rank = k; order = order })) same
     (in_front told []))) fit
     (grows_left old.book new.book told does.told.first does.told.rest)
-deed_step gap r old (Unsent rank order) new is fit does =
-    silent r old new (Some (record { rank = rank; order = order })) (ap (λ (s : HubState). s.said) does.rest)
-    (ap (λ (s : HubState). s.streams) does.rest)
-    (ap (λ (s : HubState). length s.lives) does.rest ∙ length-set old.lives rank false) fit
+action_step gap r old (Unsent rank order) new is fit does =
+    silent r old new (Some (record { rank = rank; order = order })) (ap (λ (s : CoordinatorState). s.said) does.rest)
+    (ap (λ (s : CoordinatorState). s.streams) does.rest)
+    (ap (λ (s : CoordinatorState). length s.lives) does.rest ∙ length-set old.lives rank false) fit
     (unsent_grows old new rank order does)
-deed_step gap r old (Passed rank order) new is fit does =
+action_step gap r old (Passed rank order) new is fit does =
     let told : Told = record { rank = rank; order = order } in
-    silent r old new (Some told) (ap (λ (s : HubState). s.said) does.rest)
-    (ap (λ (s : HubState). s.streams) does.rest) (ap (λ (s : HubState). length s.lives) does.rest) fit
+    silent r old new (Some told) (ap (λ (s : CoordinatorState). s.said) does.rest)
+    (ap (λ (s : CoordinatorState). s.streams) does.rest) (ap (λ (s : CoordinatorState). length s.lives) does.rest) fit
     (grows_left old.book new.book told does.told.first does.told.rest)
-deed_step gap r old Broke new is fit does =
-    silent r old new None (ap (λ (s : HubState). s.said) does.rest) (ap (λ (s : HubState). s.streams) does.rest)
-    (ap (λ (s : HubState). length s.lives) does.rest) fit
-    (same_grows old.book new.book (ap (λ (s : HubState). s.book) does.rest))
-deed_step gap r old (Unclosed rank) new is fit does =
-    silent r old new None (ap (λ (s : HubState). s.said) does.rest) (ap (λ (s : HubState). s.streams) does.rest)
-    (ap (λ (s : HubState). length s.lives) does.rest) fit
-    (same_grows old.book new.book (ap (λ (s : HubState). s.book) does.rest))
-deed_step gap r old (Halted steps) new is fit does =
-    silent r old new None (ap (λ (s : HubState). s.said) does.rest) (ap (λ (s : HubState). s.streams) does.rest)
-    (ap (λ (s : HubState). length s.lives) does.rest) fit (stands_grows steps old.book new.book does.is)
-deed_step gap r old (Unwritten rank order) new is fit does =
+action_step gap r old Broke new is fit does =
+    silent r old new None (ap (λ (s : CoordinatorState). s.said) does.rest) (ap (λ (s : CoordinatorState). s.streams) does.rest)
+    (ap (λ (s : CoordinatorState). length s.lives) does.rest) fit
+    (same_grows old.book new.book (ap (λ (s : CoordinatorState). s.book) does.rest))
+action_step gap r old (Unclosed rank) new is fit does =
+    silent r old new None (ap (λ (s : CoordinatorState). s.said) does.rest) (ap (λ (s : CoordinatorState). s.streams) does.rest)
+    (ap (λ (s : CoordinatorState). length s.lives) does.rest) fit
+    (same_grows old.book new.book (ap (λ (s : CoordinatorState). s.book) does.rest))
+action_step gap r old (Halted steps) new is fit does =
+    silent r old new None (ap (λ (s : CoordinatorState). s.said) does.rest) (ap (λ (s : CoordinatorState). s.streams) does.rest)
+    (ap (λ (s : CoordinatorState). length s.lives) does.rest) fit (stands_grows steps old.book new.book does.is)
+action_step gap r old (Unwritten rank order) new is fit does =
     let told : Told = record { rank = rank; order = order } in
-    silent r old new (Some told) (ap (λ (s : HubState). s.said) does.rest)
-    (ap (λ (s : HubState). s.streams) does.rest) (ap (λ (s : HubState). length s.lives) does.rest) fit
+    silent r old new (Some told) (ap (λ (s : CoordinatorState). s.said) does.rest)
+    (ap (λ (s : CoordinatorState). s.streams) does.rest) (ap (λ (s : CoordinatorState). length s.lives) does.rest) fit
     (grows_left old.book new.book told does.told.first does.told.rest)
-deed_step gap r old (Unfed rank bytes) new is fit does =
+action_step gap r old (Unfed rank bytes) new is fit does =
     coming r rank old new bytes (shut (stream_at old rank))
-    (ap (λ (s : HubState). s.said) does.rest) (ap (λ (s : HubState). s.streams) does.rest)
-    (ap (λ (s : HubState). s.lives) does.rest) (ap (λ (s : HubState). s.book) does.rest)
+    (ap (λ (s : CoordinatorState). s.said) does.rest) (ap (λ (s : CoordinatorState). s.streams) does.rest)
+    (ap (λ (s : CoordinatorState). s.lives) does.rest) (ap (λ (s : CoordinatorState). s.book) does.rest)
     (λ same heard stream. inr (inr (inr (record {
       bytes = bytes;
       heard = heard;
       bad = ap (λ (w : Waiting). w.bad) stream;
       none = refl;
     })))) fit does.alive
-deed_step gap r old Unread new is fit (reading, rest) =
-    silent r old new None (ap (λ (s : HubState). s.said) rest) (ap (λ (s : HubState). s.streams) rest)
-    (ap (λ (s : HubState). length s.lives) rest) fit
-    (same_grows old.book new.book (ap (λ (s : HubState). s.book) rest))
-deed_step gap r old Saved new is fit does =
-    silent r old new None (ap (λ (s : HubState). s.said) does.rest) (ap (λ (s : HubState). s.streams) does.rest)
-    (ap (λ (s : HubState). length s.lives) does.rest) fit
-    (same_grows old.book new.book (ap (λ (s : HubState). s.book) does.rest))
+action_step gap r old Unread new is fit (reading, rest) =
+    silent r old new None (ap (λ (s : CoordinatorState). s.said) rest) (ap (λ (s : CoordinatorState). s.streams) rest)
+    (ap (λ (s : CoordinatorState). length s.lives) rest) fit
+    (same_grows old.book new.book (ap (λ (s : CoordinatorState). s.book) rest))
+action_step gap r old Saved new is fit does =
+    silent r old new None (ap (λ (s : CoordinatorState). s.said) does.rest) (ap (λ (s : CoordinatorState). s.streams) does.rest)
+    (ap (λ (s : CoordinatorState). length s.lives) does.rest) fit
+    (same_grows old.book new.book (ap (λ (s : CoordinatorState). s.book) does.rest))
 
 -- ---- a course
 
--- what deeds did for a rank
-pub record IsTraffic (gap : ℤ) (r : ℕ) (old new : HubState) (deeds : List Deed) : Type 0 where
+-- what actions did for a rank
+pub record IsTraffic (gap : ℤ) (r : ℕ) (old new : CoordinatorState) (actions : List Action) : Type 0 where
   pub more : List Exchange
   pub grown : new.said ≡ old.said ++ more
-  pub told : told_at r new.said ≡ told_at r old.said ++ flat_map orders.spelled (orders_to gap r deeds)
-  pub carried : All orders.IsCarried (orders_to gap r deeds)
-  pub own : (order : Order) → Contains (orders_to gap r deeds) order
-      → Contains (left_of deeds) (record { rank = r; order = order }) ⊎ IsOwn old.book.problem order
-  pub read : (given : List Report) → IsRead r old given → IsRead r new (given ++ reports_from r deeds)
+  pub told : told_at r new.said ≡ told_at r old.said ++ flat_map orders.spelled (orders_to gap r actions)
+  pub carried : All orders.IsCarried (orders_to gap r actions)
+  pub own : (order : Order) → Contains (orders_to gap r actions) order
+      → Contains (left_of actions) (record { rank = r; order = order }) ⊎ IsOwn old.book.problem order
+  pub read : (given : List Report) → IsRead r old given → IsRead r new (given ++ reports_from r actions)
   pub fit : Fits new
-  pub grows : Grows (left_of deeds) old.book new.book
+  pub grows : Grows (left_of actions) old.book new.book
 
-no_traffic : (gap : ℤ) (r : ℕ) (s : HubState) → Fits s → IsTraffic gap r s s []
+no_traffic : (gap : ℤ) (r : ℕ) (s : CoordinatorState) → Fits s → IsTraffic gap r s s []
 no_traffic gap r s fit = record {
   more = [];
   grown = sym (append-nil s.said);
@@ -592,15 +592,15 @@ own_later : (p q : Instance) (r : ℕ) (order : Order) (ls ms : List Told) → q
 own_later p q r order ls ms same (inl there) = inl (Contains-append_right ls ms _ there)
 own_later p q r order ls ms same (inr own) = inr (subst (λ (i : Instance). IsOwn i order) same own)
 
-pub traffic_is : (gap : ℤ) (r : ℕ) (old : HubState) (deeds : List Deed) (new : HubState)
-    → old.book.settings.gap ≡ gap → Fits old → IsCourse old deeds new → IsTraffic gap r old new deeds
+pub traffic_is : (gap : ℤ) (r : ℕ) (old : CoordinatorState) (actions : List Action) (new : CoordinatorState)
+    → old.book.settings.gap ≡ gap → Fits old → IsTrace old actions new → IsTraffic gap r old new actions
 traffic_is gap r old [] new is fit same =
-    subst (λ (s : HubState). IsTraffic gap r old s []) (sym same) (no_traffic gap r old fit)
-traffic_is gap r old (deed ∷ deeds) new is fit (mid, does, more) =
-    let step = deed_step gap r old deed mid is fit does in
-    let rest = traffic_is gap r mid deeds new (ap (λ (s : Settings). s.gap) step.grows.settings ∙ is) step.fit more in
-    let here = to_rank r (sent_in gap deed) in
-    let later = orders_to gap r deeds in
+    subst (λ (s : CoordinatorState). IsTraffic gap r old s []) (sym same) (no_traffic gap r old fit)
+traffic_is gap r old (action ∷ actions) new is fit (mid, does, more) =
+    let step = action_step gap r old action mid is fit does in
+    let rest = traffic_is gap r mid actions new (ap (λ (s : Settings). s.gap) step.grows.settings ∙ is) step.fit more in
+    let here = to_rank r (sent_in gap action) in
+    let later = orders_to gap r actions in
     record {
       more = step.more ++ rest.more;
       grown = rest.grown ∙ ap (λ (s : List Exchange). s ++ rest.more) step.grown
@@ -610,15 +610,15 @@ traffic_is gap r old (deed ∷ deeds) new is fit (mid, does, more) =
           ∙ ap (λ (b : List ℕ). told_at r old.said ++ b) (sym (flat_map-append orders.spelled here later));
       carried = All-append orders.IsCarried here later step.carried rest.carried;
       own = λ order there. elim (Contains-append_cases here later order there) [
-        | inl first ↦ own_both old.book.problem r order (option_to_list (left_in deed)) (left_of deeds)
+        | inl first ↦ own_both old.book.problem r order (option_to_list (left_in action)) (left_of actions)
             (step.own order first)
-        | inr second ↦ own_later old.book.problem mid.book.problem r order (option_to_list (left_in deed))
-            (left_of deeds) step.grows.problem (rest.own order second)
+        | inr second ↦ own_later old.book.problem mid.book.problem r order (option_to_list (left_in action))
+            (left_of actions) step.grows.problem (rest.own order second)
       ];
       read = λ given h. subst (λ (ms : List Report). IsRead r new ms)
-          (append_assoc given (from_rank r (taken_in deed)) (reports_from r deeds))
-          (rest.read (given ++ from_rank r (taken_in deed))
-          (read_more r old mid given (from_rank r (taken_in deed)) step.streamed h));
+          (append_assoc given (from_rank r (taken_in action)) (reports_from r actions))
+          (rest.read (given ++ from_rank r (taken_in action))
+          (read_more r old mid given (from_rank r (taken_in action)) step.streamed h));
       fit = rest.fit;
-      grows = grows_both (option_to_list (left_in deed)) (left_of deeds) old.book mid.book new.book step.grows rest.grows;
+      grows = grows_both (option_to_list (left_in action)) (left_of actions) old.book mid.book new.book step.grows rest.grows;
     }

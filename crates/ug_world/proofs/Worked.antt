@@ -19,14 +19,14 @@ use Rattle.ug_frames.specs.Honest.{AreHonest}
 use Rattle.ug_stream.specs.Streams.{Waiting, first}
 use Rattle.ug_rules.specs.declared.told.Told.{Told}
 use Rattle.ug_rules.specs.State.{BookState}
-use Rattle.ug_coord.specs.Deeds.{Broke, Came, Closed, Decided, Deed, Does, Halted, IsCourse, Launched, Lost, Passed}
-use Rattle.ug_coord.specs.Deeds.{Sent, SetUp, HubState, Took, Unclosed, Unfed, Unread, Unsent, Unwritten}
-use Rattle.ug_coord.specs.Deeds.{Kept as Saved}
+use Rattle.ug_coord.specs.Actions.{Broke, Came, Closed, Decided, Action, NextState, Halted, IsTrace, Launched, Lost, Passed}
+use Rattle.ug_coord.specs.Actions.{Sent, SetUp, CoordinatorState, Took, Unclosed, Unfed, Unread, Unsent, Unwritten}
+use Rattle.ug_coord.specs.Actions.{Kept as Saved}
 use Rattle.ug_coord.specs.Ends.{ranks_of}
-use Rattle.ug_coord.specs.Hubs.{beginning}
-use Rattle.ug_coord.proofs.Coursing.{course_more}
+use Rattle.ug_coord.specs.Coordinators.{beginning}
+use Rattle.ug_coord.proofs.Coursing.{trace_more}
 use Rattle.ug_serve.specs.CrewLaws.{AreReportsAt}
-use Rattle.ug_serve.specs.Staffs.{AreAlwaysWorked, AreWorked}
+use Rattle.ug_serve.specs.SimWorkers.{AreAlwaysWorked, AreWorked}
 use Rattle.ug_serve.specs.Transcripts.{Ordered, order_of, work_of}
 use Rattle.ug_serve.specs.Laws.{AreOnce}
 use Rattle.ug_serve.proofs.Crewed.{IsSentTo, crew_honest, tickets_sent}
@@ -146,36 +146,36 @@ left_rising : (a b : ℕ) (order : Order) (os : List Order) → MayCome a order
     → AreRising (number_after a order) os → AreRising a os
 left_rising a b order os may more = rising_less a (number_after a order) os (after_up a order may) more
 
-rising_to : (gap : ℤ) (r : ℕ) (deeds : List Deed) (a b : ℕ) → IsNumbered a (left_of deeds) b
-    → AreRising a (orders_to gap r deeds)
+rising_to : (gap : ℤ) (r : ℕ) (actions : List Action) (a b : ℕ) → IsNumbered a (left_of actions) b
+    → AreRising a (orders_to gap r actions)
 rising_to gap r [] a b h = tt
-rising_to gap r (Launched q ∷ deeds) a b h = rising_to gap r deeds a b h
-rising_to gap r (SetUp q bytes ∷ deeds) a b h =
-    let rest = rising_to gap r deeds a b h in
-    only_rising (eqb q r) a (Setup gap bytes) (orders_to gap r deeds) tt rest rest
-rising_to gap r (Closed q ∷ deeds) a b h =
-    let rest = rising_to gap r deeds a b h in
-    only_rising (eqb q r) a End (orders_to gap r deeds) tt rest rest
-rising_to gap r (Came q bytes ∷ deeds) a b h = rising_to gap r deeds a b h
-rising_to gap r (Took q report answer ∷ deeds) a b h = rising_to gap r deeds a b h
-rising_to gap r (Lost q cause ∷ deeds) a b h = rising_to gap r deeds a b h
-rising_to gap r (Decided ∷ deeds) a b h = rising_to gap r deeds a b h
-rising_to gap r (Sent q order ∷ deeds) a b h =
-    let rest = rising_to gap r deeds (number_after a order) b h.1 in
-    only_rising (eqb q r) a order (orders_to gap r deeds) (may_be_sent a order h.0) rest
-    (left_rising a b order (orders_to gap r deeds) h.0 rest)
-rising_to gap r (Unsent q order ∷ deeds) a b h =
-    left_rising a b order (orders_to gap r deeds) h.0 (rising_to gap r deeds (number_after a order) b h.1)
-rising_to gap r (Passed q order ∷ deeds) a b h =
-    left_rising a b order (orders_to gap r deeds) h.0 (rising_to gap r deeds (number_after a order) b h.1)
-rising_to gap r (Broke ∷ deeds) a b h = rising_to gap r deeds a b h
-rising_to gap r (Unclosed q ∷ deeds) a b h = rising_to gap r deeds a b h
-rising_to gap r (Halted steps ∷ deeds) a b h = rising_to gap r deeds a b h
-rising_to gap r (Unwritten q order ∷ deeds) a b h =
-    left_rising a b order (orders_to gap r deeds) h.0 (rising_to gap r deeds (number_after a order) b h.1)
-rising_to gap r (Unfed q bytes ∷ deeds) a b h = rising_to gap r deeds a b h
-rising_to gap r (Unread ∷ deeds) a b h = rising_to gap r deeds a b h
-rising_to gap r (Saved ∷ deeds) a b h = rising_to gap r deeds a b h
+rising_to gap r (Launched q ∷ actions) a b h = rising_to gap r actions a b h
+rising_to gap r (SetUp q bytes ∷ actions) a b h =
+    let rest = rising_to gap r actions a b h in
+    only_rising (eqb q r) a (Setup gap bytes) (orders_to gap r actions) tt rest rest
+rising_to gap r (Closed q ∷ actions) a b h =
+    let rest = rising_to gap r actions a b h in
+    only_rising (eqb q r) a End (orders_to gap r actions) tt rest rest
+rising_to gap r (Came q bytes ∷ actions) a b h = rising_to gap r actions a b h
+rising_to gap r (Took q report answer ∷ actions) a b h = rising_to gap r actions a b h
+rising_to gap r (Lost q cause ∷ actions) a b h = rising_to gap r actions a b h
+rising_to gap r (Decided ∷ actions) a b h = rising_to gap r actions a b h
+rising_to gap r (Sent q order ∷ actions) a b h =
+    let rest = rising_to gap r actions (number_after a order) b h.1 in
+    only_rising (eqb q r) a order (orders_to gap r actions) (may_be_sent a order h.0) rest
+    (left_rising a b order (orders_to gap r actions) h.0 rest)
+rising_to gap r (Unsent q order ∷ actions) a b h =
+    left_rising a b order (orders_to gap r actions) h.0 (rising_to gap r actions (number_after a order) b h.1)
+rising_to gap r (Passed q order ∷ actions) a b h =
+    left_rising a b order (orders_to gap r actions) h.0 (rising_to gap r actions (number_after a order) b h.1)
+rising_to gap r (Broke ∷ actions) a b h = rising_to gap r actions a b h
+rising_to gap r (Unclosed q ∷ actions) a b h = rising_to gap r actions a b h
+rising_to gap r (Halted steps ∷ actions) a b h = rising_to gap r actions a b h
+rising_to gap r (Unwritten q order ∷ actions) a b h =
+    left_rising a b order (orders_to gap r actions) h.0 (rising_to gap r actions (number_after a order) b h.1)
+rising_to gap r (Unfed q bytes ∷ actions) a b h = rising_to gap r actions a b h
+rising_to gap r (Unread ∷ actions) a b h = rising_to gap r actions a b h
+rising_to gap r (Saved ∷ actions) a b h = rising_to gap r actions a b h
 
 rising_above : (a : ℕ) (os : List Order) (t : Ticket) → AreRising a os → Contains (tickets_sent os) t
     → a < t.number
@@ -214,9 +214,9 @@ bound_in None = 0
 bound_in (Some delivery) = delivery.rank + 1
 
 -- more than any rank from which a report was received
-abbrev bound_of : List Deed → ℕ
+abbrev bound_of : List Action → ℕ
 bound_of [] = 0
-bound_of (deed ∷ deeds) = bound_in (taken_in deed) + bound_of deeds
+bound_of (action ∷ actions) = bound_in (taken_in action) + bound_of actions
 
 whose_in : (taken : Option Delivery) (report : Report) → Contains (report_in taken) report
     → (rank : ℕ) × (rank < bound_in taken) × Contains (from_rank rank taken) report
@@ -228,20 +228,20 @@ whose_in (Some delivery) report there = (
       (sym (eq-eqb delivery.rank delivery.rank refl)) there,
 )
 
-whose : (deeds : List Deed) (report : Report) → Contains (heard_of deeds) report
-    → (rank : ℕ) × (rank < bound_of deeds) × Contains (reports_from rank deeds) report
+whose : (actions : List Action) (report : Report) → Contains (heard_of actions) report
+    → (rank : ℕ) × (rank < bound_of actions) × Contains (reports_from rank actions) report
 whose [] report there = absurd (nothing_in report there)
-whose (deed ∷ deeds) report there =
-    elim (Contains-append_cases (report_in (taken_in deed)) (heard_of deeds) report there) [
-      | inl here ↦ let t = whose_in (taken_in deed) report here in (
+whose (action ∷ actions) report there =
+    elim (Contains-append_cases (report_in (taken_in action)) (heard_of actions) report there) [
+      | inl here ↦ let t = whose_in (taken_in action) report here in (
         t.0,
         omega (arith, t.1),
-        Contains-append_left (from_rank t.0 (taken_in deed)) (reports_from t.0 deeds) report t.2,
+        Contains-append_left (from_rank t.0 (taken_in action)) (reports_from t.0 actions) report t.2,
       )
-      | inr later ↦ let t = whose deeds report later in (
+      | inr later ↦ let t = whose actions report later in (
         t.0,
         omega (arith, t.1),
-        Contains-append_right (from_rank t.0 (taken_in deed)) (reports_from t.0 deeds) report t.2,
+        Contains-append_right (from_rank t.0 (taken_in action)) (reports_from t.0 actions) report t.2,
       )
     ]
 
@@ -252,15 +252,15 @@ among_in (Some delivery) rank report there =
     let own = only_there (eqb delivery.rank rank) delivery.report report there in
     subst (Contains (delivery.report ∷ [])) own.1 (in_front delivery.report [])
 
-among_heard : (deeds : List Deed) (rank : ℕ) (report : Report) → Contains (reports_from rank deeds) report
-    → Contains (heard_of deeds) report
+among_heard : (actions : List Action) (rank : ℕ) (report : Report) → Contains (reports_from rank actions) report
+    → Contains (heard_of actions) report
 among_heard [] rank report there = absurd (nothing_in report there)
-among_heard (deed ∷ deeds) rank report there =
-    elim (Contains-append_cases (from_rank rank (taken_in deed)) (reports_from rank deeds) report there) [
-      | inl here ↦ Contains-append_left (report_in (taken_in deed)) (heard_of deeds) report
-          (among_in (taken_in deed) rank report here)
-      | inr later ↦ Contains-append_right (report_in (taken_in deed)) (heard_of deeds) report
-          (among_heard deeds rank report later)
+among_heard (action ∷ actions) rank report there =
+    elim (Contains-append_cases (from_rank rank (taken_in action)) (reports_from rank actions) report there) [
+      | inl here ↦ Contains-append_left (report_in (taken_in action)) (heard_of actions) report
+          (among_in (taken_in action) rank report here)
+      | inr later ↦ Contains-append_right (report_in (taken_in action)) (heard_of actions) report
+          (among_heard actions rank report later)
     ]
 
 -- ---- at the end of a course
@@ -282,13 +282,13 @@ none_read b faults r = record {
   waits = λ fine. ap (λ (w : Waiting). w.bytes) (sym (none_waits (ranks_of b) r));
 }
 
-module _ (b : BookState) (faults : ℕ) (unused : IsUnused b) (deeds : List Deed) (now : HubState)
-    (course : IsCourse (beginning b faults) deeds now) where
-  pub traffic : (r : ℕ) → IsTraffic b.settings.gap r (beginning b faults) now deeds
-  traffic r = traffic_is b.settings.gap r (beginning b faults) deeds now refl (fit_first b faults) course
+module _ (b : BookState) (faults : ℕ) (unused : IsUnused b) (actions : List Action) (now : CoordinatorState)
+    (trace : IsTrace (beginning b faults) actions now) where
+  pub traffic : (r : ℕ) → IsTraffic b.settings.gap r (beginning b faults) now actions
+  traffic r = traffic_is b.settings.gap r (beginning b faults) actions now refl (fit_first b faults) trace
 
   abbrev all : List Told
-  all = left_of deeds ++ now.book.orders
+  all = left_of actions ++ now.book.orders
 
   numbered : IsNumbered 0 all now.book.last
   numbered =
@@ -297,53 +297,53 @@ module _ (b : BookState) (faults : ℕ) (unused : IsUnused b) (deeds : List Deed
       (sym (grows.orders ∙ ap (λ (os : List Told). os ++ grows.more) unused.orders))
       (subst (λ (n : ℕ). IsNumbered n grows.more now.book.last) unused.last grows.numbered)
 
-  there : (r : ℕ) (work : Ordered) → Contains (orders_to b.settings.gap r deeds) (order_of work)
+  there : (r : ℕ) (work : Ordered) → Contains (orders_to b.settings.gap r actions) (order_of work)
       → Contains all (record { rank = r; order = order_of work })
   there r work sent = elim ((traffic r).own (order_of work) sent) [
-    | inl left ↦ Contains-append_left (left_of deeds) now.book.orders _ left
+    | inl left ↦ Contains-append_left (left_of actions) now.book.orders _ left
     | inr none ↦ absurd none
   ]
 
-  pub sent_to : (r : ℕ) → IsSentTo b.problem now.said r (orders_to b.settings.gap r deeds)
+  pub sent_to : (r : ℕ) → IsSentTo b.problem now.said r (orders_to b.settings.gap r actions)
   sent_to r = record {
     carried = (traffic r).carried;
     bytes = (traffic r).told;
     records = λ gap bytes sent. elim ((traffic r).own (Setup gap bytes) sent) [
       | inl left ↦ absurd (no_setup 0 all now.book.last r gap bytes numbered
-          (Contains-append_left (left_of deeds) now.book.orders _ left))
+          (Contains-append_left (left_of actions) now.book.orders _ left))
       | inr own ↦ own
     ];
   }
 
-  pub read_from : (r : ℕ) → AreReportsAt now.said r (reports_from r deeds)
+  pub read_from : (r : ℕ) → AreReportsAt now.said r (reports_from r actions)
   read_from r =
       let read = (traffic r).read [] (none_read b faults r) in
       record { carried = read.carried; rest = read.rest; parts = read.parts }
 
   -- no end left the queue
-  pub none_ends : (r : ℕ) → Contains (left_of deeds) (record { rank = r; order = End }) → ⊥
+  pub none_ends : (r : ℕ) → Contains (left_of actions) (record { rank = r; order = End }) → ⊥
   none_ends r left = no_end 0 all now.book.last r numbered
-      (Contains-append_left (left_of deeds) now.book.orders _ left)
+      (Contains-append_left (left_of actions) now.book.orders _ left)
 
   -- nor one that comes first
   pub none_sets : (r : ℕ) (gap : ℤ) (bytes : List ℕ)
-      → Contains (left_of deeds) (record { rank = r; order = Setup gap bytes }) → ⊥
+      → Contains (left_of actions) (record { rank = r; order = Setup gap bytes }) → ⊥
   none_sets r gap bytes left = no_setup 0 all now.book.last r gap bytes numbered
-      (Contains-append_left (left_of deeds) now.book.orders _ left)
+      (Contains-append_left (left_of actions) now.book.orders _ left)
 
-  pub once : (r : ℕ) → AreOnce (tickets_sent (orders_to b.settings.gap r deeds))
+  pub once : (r : ℕ) → AreOnce (tickets_sent (orders_to b.settings.gap r actions))
   once r =
-      let front = front_numbered 0 (left_of deeds) now.book.orders now.book.last numbered in
-      rising_once 0 (orders_to b.settings.gap r deeds) (rising_to b.settings.gap r deeds 0 front.0 front.1)
+      let front = front_numbered 0 (left_of actions) now.book.orders now.book.last numbered in
+      rising_once 0 (orders_to b.settings.gap r actions) (rising_to b.settings.gap r actions 0 front.0 front.1)
 
-  apart : (q r : ℕ) (v w : Ordered) → Contains (orders_to b.settings.gap q deeds) (order_of v)
-      → Contains (orders_to b.settings.gap r deeds) (order_of w) → v.ticket ≡ w.ticket → q ≡ r
+  apart : (q r : ℕ) (v w : Ordered) → Contains (orders_to b.settings.gap q actions) (order_of v)
+      → Contains (orders_to b.settings.gap r actions) (order_of w) → v.ticket ≡ w.ticket → q ≡ r
   apart q r v w one two same =
       ap (λ (t : Told). t.rank) (one_told 0 all now.book.last q r v w numbered (there q v one) (there r w two)
       (ap (λ (t : Ticket). t.number) same))
 
   its_box : (r : ℕ) (work : Ordered) (area : List Interval)
-      → Contains (orders_to b.settings.gap r deeds) (order_of work)
+      → Contains (orders_to b.settings.gap r actions) (order_of work)
       → IsGivenWith b.problem all work.ticket area → area ≡ area_by (root_of b.problem) work.changes
   its_box r work area sent g =
       let other : Ordered = record {
@@ -358,20 +358,20 @@ module _ (b : BookState) (faults : ℕ) (unused : IsUnused b) (deeds : List Deed
       (sym (same_work work other (ap (λ (t : Told). work_of t.order) same)))
 
   -- all that was received is honest, where workers reported what was received
-  pub honest_so : AreWorked now.said → IsHonestSo now.book (left_of deeds) (heard_of deeds)
+  pub honest_so : AreWorked now.said → IsHonestSo now.book (left_of actions) (heard_of actions)
   honest_so worked =
-      subst (λ (p : Instance). AreHonest p (IsGivenWith p all) (heard_of deeds))
+      subst (λ (p : Instance). AreHonest p (IsGivenWith p all) (heard_of actions))
       (sym (traffic 0).grows.problem)
-      (crew_honest b.problem now.said (bound_of deeds) (λ r. orders_to b.settings.gap r deeds)
-      (λ r. reports_from r deeds) worked sent_to read_from once apart (heard_of deeds) (whose deeds)
-      (among_heard deeds) (IsGivenWith b.problem all) its_box)
+      (crew_honest b.problem now.said (bound_of actions) (λ r. orders_to b.settings.gap r actions)
+      (λ r. reports_from r actions) worked sent_to read_from once apart (heard_of actions) (whose actions)
+      (among_heard actions) (IsGivenWith b.problem all) its_box)
 
 -- ---- through a course
 
--- what a deed adds to what was sent and received
-record IsAfter (deed : Deed) (past : Past) : Type 0 where
-  told : (after deed past).told ≡ past.told ++ option_to_list (left_in deed)
-  heard : (after deed past).heard ≡ past.heard ++ report_in (taken_in deed)
+-- what a action adds to what was sent and received
+record IsAfter (action : Action) (past : Past) : Type 0 where
+  told : (after action past).told ≡ past.told ++ option_to_list (left_in action)
+  heard : (after action past).heard ≡ past.heard ++ report_in (taken_in action)
 
 same_told : (past : Past) → past.told ≡ past.told ++ []
 same_told past = sym (append-nil past.told)
@@ -379,7 +379,7 @@ same_told past = sym (append-nil past.told)
 same_heard : (past : Past) → past.heard ≡ past.heard ++ []
 same_heard past = sym (append-nil past.heard)
 
-is_after : (deed : Deed) (past : Past) → IsAfter deed past
+is_after : (action : Action) (past : Past) → IsAfter action past
 is_after (Launched rank) past = record { told = same_told past; heard = same_heard past }
 is_after (SetUp rank bytes) past = record { told = same_told past; heard = same_heard past }
 is_after (Closed rank) past = record { told = same_told past; heard = same_heard past }
@@ -398,19 +398,19 @@ is_after (Unfed rank bytes) past = record { told = same_told past; heard = same_
 is_after Unread past = record { told = same_told past; heard = same_heard past }
 is_after Saved past = record { told = same_told past; heard = same_heard past }
 
-pub left_push : (done : List Deed) (deed : Deed)
-    → left_of (done ++ deed ∷ []) ≡ left_of done ++ option_to_list (left_in deed)
-left_push [] deed = append-nil (option_to_list (left_in deed))
-left_push (one ∷ done) deed =
-    ap (λ (ts : List Told). option_to_list (left_in one) ++ ts) (left_push done deed)
-    ∙ sym (append_assoc (option_to_list (left_in one)) (left_of done) (option_to_list (left_in deed)))
+pub left_push : (done : List Action) (action : Action)
+    → left_of (done ++ action ∷ []) ≡ left_of done ++ option_to_list (left_in action)
+left_push [] action = append-nil (option_to_list (left_in action))
+left_push (one ∷ done) action =
+    ap (λ (ts : List Told). option_to_list (left_in one) ++ ts) (left_push done action)
+    ∙ sym (append_assoc (option_to_list (left_in one)) (left_of done) (option_to_list (left_in action)))
 
-heard_push : (done : List Deed) (deed : Deed)
-    → heard_of (done ++ deed ∷ []) ≡ heard_of done ++ report_in (taken_in deed)
-heard_push [] deed = append-nil (report_in (taken_in deed))
-heard_push (one ∷ done) deed =
-    ap (λ (rs : List Report). report_in (taken_in one) ++ rs) (heard_push done deed)
-    ∙ sym (append_assoc (report_in (taken_in one)) (heard_of done) (report_in (taken_in deed)))
+heard_push : (done : List Action) (action : Action)
+    → heard_of (done ++ action ∷ []) ≡ heard_of done ++ report_in (taken_in action)
+heard_push [] action = append-nil (report_in (taken_in action))
+heard_push (one ∷ done) action =
+    ap (λ (rs : List Report). report_in (taken_in one) ++ rs) (heard_push done action)
+    ∙ sym (append_assoc (report_in (taken_in one)) (heard_of done) (report_in (taken_in action)))
 
 -- reports honest of more tickets are honest of fewer
 less_given : (p : Instance) (G H : Ticket → List Interval → Type 0) (heard : List Report)
@@ -450,15 +450,15 @@ honest_back old new told heard grows h =
     (subst (λ (p : Instance). AreHonest p (IsGivenWith p (told ++ new.orders)) heard) grows.problem h))
 
 -- reports honest once one was answered were so before
-now_by : (old mid : HubState) (past : Past) (deed : Deed) → Does old deed mid
-    → IsHonestSo mid.book (after deed past).told (after deed past).heard → honest_at old past deed
+now_by : (old mid : CoordinatorState) (past : Past) (action : Action) → NextState old action mid
+    → IsHonestSo mid.book (after action past).told (after action past).heard → honest_at old past action
 now_by old mid past (Launched rank) does h = tt
 now_by old mid past (SetUp rank bytes) does h = tt
 now_by old mid past (Closed rank) does h = tt
 now_by old mid past (Came rank bytes) does h = tt
 now_by old mid past (Took rank report answer) does h =
     honest_back old.book mid.book past.told (past.heard ++ report ∷ [])
-    (subst (Grows [] old.book) (sym (ap (λ (s : HubState). s.book) does.rest))
+    (subst (Grows [] old.book) (sym (ap (λ (s : CoordinatorState). s.book) does.rest))
     (heard_grows answer rank report old.book)) h
 now_by old mid past (Lost rank cause) does h = tt
 now_by old mid past Decided does h = tt
@@ -475,35 +475,35 @@ now_by old mid past Saved does h = tt
 
 module _ (b : BookState) (faults : ℕ) (unused : IsUnused b) (said : List Exchange)
     (worked : AreAlwaysWorked said) where
-  stays_honest : (done : List Deed) (old : HubState) (deeds : List Deed) (new : HubState) (past : Past)
-      → IsCourse (beginning b faults) done old → (course : IsCourse old deeds new) → (more : List Exchange)
+  stays_honest : (done : List Action) (old : CoordinatorState) (actions : List Action) (new : CoordinatorState) (past : Past)
+      → IsTrace (beginning b faults) done old → (trace : IsTrace old actions new) → (more : List Exchange)
       → said ≡ new.said ++ more → past.told ≡ left_of done → past.heard ≡ heard_of done
-      → StaysHonest old past deeds new course
-  stays_honest done old [] new past so course more same told heard = tt
-  stays_honest done old (deed ∷ deeds) new past so (mid, does, rest) more same told heard =
-      let so_far = course_more (beginning b faults) done old mid deed so does in
-      let first = traffic b faults unused (done ++ deed ∷ []) mid so_far 0 in
-      let later = traffic_is mid.book.settings.gap 0 mid deeds new refl first.fit rest in
-      let its = is_after deed past in
-      let told_so = its.told ∙ ap (λ (ts : List Told). ts ++ option_to_list (left_in deed)) told
-      ∙ sym (left_push done deed) in
-      let heard_so = its.heard ∙ ap (λ (rs : List Report). rs ++ report_in (taken_in deed)) heard
-      ∙ sym (heard_push done deed) in
-      let honest : IsHonestSo mid.book (after deed past).told (after deed past).heard =
-      subst (λ (ts : List Told). IsHonestSo mid.book ts (after deed past).heard) (sym told_so)
-      (subst (λ (rs : List Report). IsHonestSo mid.book (left_of (done ++ deed ∷ [])) rs) (sym heard_so)
-      (honest_so b faults unused (done ++ deed ∷ []) mid so_far
+      → StaysHonest old past actions new trace
+  stays_honest done old [] new past so trace more same told heard = tt
+  stays_honest done old (action ∷ actions) new past so (mid, does, rest) more same told heard =
+      let so_far = trace_more (beginning b faults) done old mid action so does in
+      let first = traffic b faults unused (done ++ action ∷ []) mid so_far 0 in
+      let later = traffic_is mid.book.settings.gap 0 mid actions new refl first.fit rest in
+      let its = is_after action past in
+      let told_so = its.told ∙ ap (λ (ts : List Told). ts ++ option_to_list (left_in action)) told
+      ∙ sym (left_push done action) in
+      let heard_so = its.heard ∙ ap (λ (rs : List Report). rs ++ report_in (taken_in action)) heard
+      ∙ sym (heard_push done action) in
+      let honest : IsHonestSo mid.book (after action past).told (after action past).heard =
+      subst (λ (ts : List Told). IsHonestSo mid.book ts (after action past).heard) (sym told_so)
+      (subst (λ (rs : List Report). IsHonestSo mid.book (left_of (done ++ action ∷ [])) rs) (sym heard_so)
+      (honest_so b faults unused (done ++ action ∷ []) mid so_far
       (worked mid.said (later.more ++ more)
       (same ∙ ap (λ (s : List Exchange). s ++ more) later.grown ∙ append_assoc mid.said later.more more)))) in (
-        now_by old mid past deed does honest,
+        now_by old mid past action does honest,
         (
           honest,
-          stays_honest (done ++ deed ∷ []) mid deeds new (after deed past) so_far rest more same told_so heard_so,
+          stays_honest (done ++ action ∷ []) mid actions new (after action past) so_far rest more same told_so heard_so,
         ),
       )
 
 pub coordinators_of_workers_lose_nothing : CoordinatorsOfWorkersLoseNothing
 coordinators_of_workers_lose_nothing b faults now come made sound unused worked =
     coordinators_lose_nothing b faults now come made sound unused.last
-    (stays_honest b faults unused now.said worked [] (beginning b faults) come.deeds now nothing refl come.course []
+    (stays_honest b faults unused now.said worked [] (beginning b faults) come.actions now nothing refl come.trace []
     (sym (append-nil now.said)) refl refl)

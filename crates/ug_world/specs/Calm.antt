@@ -5,23 +5,23 @@ use Rattle.ug_ranks.specs.Looks.{is_joined}
 use Rattle.ug_ranks.specs.States.{state_at}
 use Rattle.ug_rules.specs.State.{BookState}
 use Rattle.ug_coord.specs.Causes.{HasCause}
-use Rattle.ug_coord.specs.Deeds.{HubState}
-use Rattle.ug_coord.specs.Hubs.{HasCome, beginning}
-use Rattle.ug_serve.specs.Staffs.{AreAlwaysWorked}
+use Rattle.ug_coord.specs.Actions.{CoordinatorState}
+use Rattle.ug_coord.specs.Coordinators.{Reaches, beginning}
+use Rattle.ug_serve.specs.SimWorkers.{AreAlwaysWorked}
 use Rattle.ug_world.specs.Workers.{IsUnused}
 
 -- From a book that has given no ticket, and no rank of which has joined: the count of faults is the
 -- same at the end, and memory did not run out. At each moment the bytes received from each rank are
 -- what a worker sends.
-pub record IsCalmCourse (b : BookState) (faults : ℕ) (now : HubState) : Type 0 where
+pub record IsCalmTrace (b : BookState) (faults : ℕ) (now : CoordinatorState) : Type 0 where
   pub unused : IsUnused b
   pub away : (rank : ℕ) → is_joined (state_at b.ranks rank) ≡ false
   pub worked : AreAlwaysWorked now.said
   pub calm : IsCalm faults now.faults
   pub memory : now.wants ≡ false
 
--- Then no deed takes a rank for gone: no bytes that come are bad, and no answer to a report is its
--- death.
+-- Then no action takes a rank for gone: no bytes that come are bad, and no answer to a report is
+-- its death.
 abbrev pub CalmWorkersLive : Type 0
-CalmWorkersLive = (b : BookState) (faults : ℕ) (now : HubState) (come : HasCome (beginning b faults) now)
-    → IsCalmCourse b faults now → (rank : ℕ) → HasCause rank come.deeds → ⊥
+CalmWorkersLive = (b : BookState) (faults : ℕ) (now : CoordinatorState) (come : Reaches (beginning b faults) now)
+    → IsCalmTrace b faults now → (rank : ℕ) → HasCause rank come.actions → ⊥

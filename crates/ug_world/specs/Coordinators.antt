@@ -6,11 +6,11 @@ use Rattle.ug_rules.specs.declared.heard.Heard.{Heard}
 use Rattle.ug_rules.specs.declared.told.Told.{Told}
 use Rattle.ug_rules.specs.State.{BookState}
 use Rattle.ug_rules.specs.Books.{IsBook, IsSoundBook}
-use Rattle.ug_coord.specs.Deeds.{Broke, Came, Closed, Decided, Deed, Halted, IsCourse}
-use Rattle.ug_coord.specs.Deeds.{Launched, Lost, Passed, Sent, SetUp, HubState, Took, Unclosed, Unfed}
-use Rattle.ug_coord.specs.Deeds.{Unread, Unsent, Unwritten}
-use Rattle.ug_coord.specs.Deeds.{Kept as Saved}
-use Rattle.ug_coord.specs.Hubs.{HasCome, StaysSound, beginning}
+use Rattle.ug_coord.specs.Actions.{Broke, Came, Closed, Decided, Action, Halted, IsTrace}
+use Rattle.ug_coord.specs.Actions.{Launched, Lost, Passed, Sent, SetUp, CoordinatorState, Took, Unclosed, Unfed}
+use Rattle.ug_coord.specs.Actions.{Unread, Unsent, Unwritten}
+use Rattle.ug_coord.specs.Actions.{Kept as Saved}
+use Rattle.ug_coord.specs.Coordinators.{Reaches, StaysSound, beginning}
 use Rattle.ug_world.specs.Honest.{IsGivenWith}
 use Rattle.ug_world.specs.Laws.{LosesNothing}
 
@@ -20,7 +20,7 @@ pub record Past : Type 0 where
   pub heard : List Report
   pub replies : List Heard
 
--- before the first deed
+-- before the first action
 abbrev pub nothing : Past
 nothing = record { told = []; heard = []; replies = [] }
 
@@ -33,21 +33,21 @@ abbrev pub with_report : Past → Report → Heard → Past
 with_report past report answer =
     record past { heard = past.heard ++ report ∷ []; replies = past.replies ++ answer ∷ [] }
 
--- behind a deed
-abbrev pub after : Deed → Past → Past
+-- behind a action
+abbrev pub after : Action → Past → Past
 after (Took rank report answer) past = with_report past report answer
 after (Sent rank order) past = with_order past (record { rank = rank; order = order })
 after (Unsent rank order) past = with_order past (record { rank = rank; order = order })
 after (Passed rank order) past = with_order past (record { rank = rank; order = order })
 after (Unwritten rank order) past = with_order past (record { rank = rank; order = order })
-after deed past = past
+after action past = past
 
 -- the reports received are honest, for the tickets in orders that left the queue or wait
 abbrev pub IsHonestSo : BookState → List Told → List Report → Type 0
 IsHonestSo b told heard = AreHonest b.problem (IsGivenWith b.problem (told ++ b.orders)) heard
 
 -- also at the moment between that a report comes and that it is answered
-abbrev pub honest_at : HubState → Past → Deed → Type 0
+abbrev pub honest_at : CoordinatorState → Past → Action → Type 0
 honest_at old past (Launched rank) = Unit {0}
 honest_at old past (SetUp rank bytes) = Unit {0}
 honest_at old past (Closed rank) = Unit {0}
@@ -67,24 +67,24 @@ honest_at old past (Unfed rank bytes) = Unit {0}
 honest_at old past Unread = Unit {0}
 honest_at old past Saved = Unit {0}
 
--- so it is through all of the deeds
-abbrev pub StaysHonest : (old : HubState) → Past → (deeds : List Deed) → (new : HubState)
-    → IsCourse old deeds new → Type 0
-StaysHonest old past [] new course = Unit {0}
-StaysHonest old past (deed ∷ deeds) new (mid, does, more) = honest_at old past deed
-    × (IsHonestSo mid.book (after deed past).told (after deed past).heard
-    × StaysHonest mid (after deed past) deeds new more)
+-- so it is through all of the actions
+abbrev pub StaysHonest : (old : CoordinatorState) → Past → (actions : List Action) → (new : CoordinatorState)
+    → IsTrace old actions new → Type 0
+StaysHonest old past [] new trace = Unit {0}
+StaysHonest old past (action ∷ actions) new (mid, does, more) = honest_at old past action
+    × (IsHonestSo mid.book (after action past).told (after action past).heard
+    × StaysHonest mid (after action past) actions new more)
 
 -- the reports received are honest through a course from the beginning
-abbrev pub IsHonestFrom : (b : BookState) (faults : ℕ) (now : HubState) → HasCome (beginning b faults) now
+abbrev pub IsHonestFrom : (b : BookState) (faults : ℕ) (now : CoordinatorState) → Reaches (beginning b faults) now
     → Type 0
-IsHonestFrom b faults now come = StaysHonest (beginning b faults) nothing come.deeds now come.course
+IsHonestFrom b faults now come = StaysHonest (beginning b faults) nothing come.actions now come.trace
 
 -- From a sound book that has given no ticket: whatever comes of the crew, whichever ranks are lost
 -- and whichever calls fail, at each moment the book is sound, so no better point is lost, as long
 -- as what is received is honest.
 abbrev pub CoordinatorsLoseNothing : Type 0
-CoordinatorsLoseNothing = (b : BookState) (faults : ℕ) (now : HubState)
-    (come : HasCome (beginning b faults) now) → IsBook b ⊎ (come.deeds ≡ []) → IsSoundBook b → b.last ≡ 0
+CoordinatorsLoseNothing = (b : BookState) (faults : ℕ) (now : CoordinatorState)
+    (come : Reaches (beginning b faults) now) → IsBook b ⊎ (come.actions ≡ []) → IsSoundBook b → b.last ≡ 0
     → IsHonestFrom b faults now come
     → StaysSound (beginning b faults) now come × LosesNothing now.book

@@ -73,7 +73,7 @@ pub record IsFoundThrough (past : List DiskWorld) (old : DiskWorld) (event : Dis
 -- so it is through each of the events, where these worlds stood so far, the latest first
 abbrev pub AreFound : List DiskWorld → DiskWorld → List DiskEvent → List DiskWorld → Type 0
 AreFound past old [] [] = Unit {0}
-AreFound past old (event ∷ events) (new ∷ course) =
-    IsFoundThrough past old event new × AreFound (new ∷ past) new events course
-AreFound past old [] (new ∷ course) = ⊥
+AreFound past old (event ∷ events) (new ∷ trace) =
+    IsFoundThrough past old event new × AreFound (new ∷ past) new events trace
+AreFound past old [] (new ∷ trace) = ⊥
 AreFound past old (event ∷ events) [] = ⊥

@@ -20,7 +20,7 @@ use Rattle.ug_world.specs.declared.disk_event.DiskEvent.TheVariants.{World as In
 use Rattle.ug_world.specs.declared.disk_event.DiskEvent.TheVariants.{Crash, Stop}
 use Rattle.ug_world.specs.DiskEvents.{IsDiskEvent}
 use Rattle.ug_world.specs.DiskFinds.{AreFound}
-use Rattle.ug_world.specs.Machines.{DiskWorld, IsDiskCourse, beginning, left_by}
+use Rattle.ug_world.specs.Machines.{DiskWorld, IsDiskTrace, beginning, left_by}
 
 -- A run has begun: its book is sound and has given no ticket, and its first image is acknowledged:
 -- whatever a crash now leaves, recovery finds it. What the disk had before does not matter, nor
@@ -60,9 +60,9 @@ pub record LosesNothingSince (since : History) (w : DiskWorld) : Type 0 where
 -- so it is after each of the events, at any moment since the run has begun, or since the last crash
 abbrev pub LoseNothing : History → List DiskEvent → List DiskWorld → Type 0
 LoseNothing since [] [] = Unit {0}
-LoseNothing since (event ∷ events) (new ∷ course) =
-    LosesNothingSince (left_by event since) new × LoseNothing (left_by event since) events course
-LoseNothing since [] (new ∷ course) = ⊥
+LoseNothing since (event ∷ events) (new ∷ trace) =
+    LosesNothingSince (left_by event since) new × LoseNothing (left_by event since) events trace
+LoseNothing since [] (new ∷ trace) = ⊥
 LoseNothing since (event ∷ events) [] = ⊥
 
 -- so far everything that solvers sent to the run that continues is honest
@@ -72,17 +72,17 @@ IsHonestOnDisk w = w.refused ≡ None → IsHonest w.world
 -- after each event of each list, as long as solvers are honest, no better point is lost
 abbrev pub CrashesLoseNothing : Type 0
 CrashesLoseNothing =
-    (start : DiskWorld) (events : List DiskEvent) (course : List DiskWorld)
-    → HasBegun start → All IsDiskEvent events → IsDiskCourse start events course
-    → All IsHonestOnDisk course → LoseNothing start.told events course
+    (start : DiskWorld) (events : List DiskEvent) (trace : List DiskWorld)
+    → HasBegun start → All IsDiskEvent events → IsDiskTrace start events trace
+    → All IsHonestOnDisk trace → LoseNothing start.told events trace
 
 -- whatever happens, honest or not, at each moment an image is found that is of a moment so far and
 -- no older than the last acknowledged one
 abbrev pub ImagesAreFound : Type 0
 ImagesAreFound =
-    (start : DiskWorld) (events : List DiskEvent) (course : List DiskWorld)
-    → HasBegun start → IsDiskCourse start events course
-    → AreFound (start ∷ []) start events course
+    (start : DiskWorld) (events : List DiskEvent) (trace : List DiskWorld)
+    → HasBegun start → IsDiskTrace start events trace
+    → AreFound (start ∷ []) start events trace
 
 -- a restart that is not refused takes a greater run number, and no other event takes another
 abbrev pub IsNumbered : DiskWorld → DiskEvent → DiskWorld → Type 0
@@ -96,13 +96,13 @@ IsNumbered old (Stop settings) new =
 
 abbrev pub AreNumbered : DiskWorld → List DiskEvent → List DiskWorld → Type 0
 AreNumbered old [] [] = Unit {0}
-AreNumbered old (event ∷ events) (new ∷ course) =
-    IsNumbered old event new × AreNumbered new events course
-AreNumbered old [] (new ∷ course) = ⊥
+AreNumbered old (event ∷ events) (new ∷ trace) =
+    IsNumbered old event new × AreNumbered new events trace
+AreNumbered old [] (new ∷ trace) = ⊥
 AreNumbered old (event ∷ events) [] = ⊥
 
 -- whatever happens, honest or not, each restart is of a run with a number above those before
 abbrev pub RunsRise : Type 0
 RunsRise =
-    (start : DiskWorld) (events : List DiskEvent) (course : List DiskWorld)
-    → HasBegun start → IsDiskCourse start events course → AreNumbered start events course
+    (start : DiskWorld) (events : List DiskEvent) (trace : List DiskWorld)
+    → HasBegun start → IsDiskTrace start events trace → AreNumbered start events trace

@@ -10,7 +10,7 @@ use Rattle.ug_world.specs.declared.disk_event.DiskEvent.{DiskEvent}
 use Rattle.ug_world.specs.declared.halt.Halted.{Halted}
 use Rattle.ug_world.specs.declared.disk_schedule.PlayedDisk.{PlayedDisk}
 use Rattle.ug_world.specs.declared.disk_schedule.PlayDiskFault.{PlayDiskFault}
-use Rattle.ug_world.specs.Machines.{DiskWorld, IsDiskCourse, disk_end_of, last_left}
+use Rattle.ug_world.specs.Machines.{DiskWorld, IsDiskTrace, disk_end_of, last_left}
 use Rattle.ug_world.specs.DiskHalts.{IsHalted, IsRefused}
 use Rattle.ug_world.specs.Laws.{LosesNothing}
 use Rattle.ug_world.specs.DiskLaws.{IsHonestOnDisk}
@@ -25,17 +25,17 @@ pub record IsLeftOf (w : DiskWorld) (left : PlayedDisk) : Type 0 where
   pub attempts : left.attempts ≡ w.attempts
 
 -- the first `done` events happened, one after another, and led to this world
-pub record HasCome (start : DiskWorld) (events : List DiskEvent) (done : ℕ) (w : DiskWorld)
+pub record Reaches (start : DiskWorld) (events : List DiskEvent) (done : ℕ) (w : DiskWorld)
     : Type 0 where
-  pub course : List DiskWorld
-  pub happened : IsDiskCourse start (take done events) course
-  pub ends : disk_end_of start course ≡ w
+  pub trace : List DiskWorld
+  pub happened : IsDiskTrace start (take done events) trace
+  pub ends : disk_end_of start trace ≡ w
 
 -- all of the events happened, and a run continues
 pub record IsPlayedOnDisk (start : DiskWorld) (events : List DiskEvent) (left : PlayedDisk)
     : Type 0 where
   pub w : DiskWorld
-  pub come : HasCome start events (length events) w
+  pub come : Reaches start events (length events) w
   pub goes_on : w.refused ≡ None
   pub is_left : IsLeftOf w left
 
@@ -49,7 +49,7 @@ IsHaltedAt (Some event) old new why = IsHalted old event new why
 pub record IsStoppedOnDisk (start : DiskWorld) (events : List DiskEvent) (fault : PlayDiskFault)
     : Type 0 where
   pub w : DiskWorld
-  pub come : HasCome start events fault.done w
+  pub come : Reaches start events fault.done w
   pub new : DiskWorld
   pub halted : IsHaltedAt (slice_get events fault.done) w new fault.why
   pub is_left : IsLeftOf new fault.left
@@ -62,12 +62,12 @@ pub record NothingIsLost (since : History) (w : DiskWorld) (left : PlayedDisk) :
 -- so it is, as long as solvers are honest, wherever the schedule stopped
 abbrev pub HonestLeaveOnDisk : DiskWorld → List DiskEvent → Result PlayedDisk PlayDiskFault → Type 0
 HonestLeaveOnDisk start events (Ok left) =
-    (w : DiskWorld) (come : HasCome start events (length events) w)
-    → All IsHonestOnDisk come.course → IsLeftOf w left
+    (w : DiskWorld) (come : Reaches start events (length events) w)
+    → All IsHonestOnDisk come.trace → IsLeftOf w left
     → NothingIsLost (last_left start.told (take (length events) events)) w left
 HonestLeaveOnDisk start events (Err fault) =
-    (w new : DiskWorld) (come : HasCome start events fault.done w)
-    → All IsHonestOnDisk come.course
+    (w new : DiskWorld) (come : Reaches start events fault.done w)
+    → All IsHonestOnDisk come.trace
     → IsHaltedAt (slice_get events fault.done) w new fault.why
     → IsLeftOf new fault.left
     → NothingIsLost (last_left start.told (take fault.done events)) w fault.left

@@ -11,7 +11,7 @@ use Rattle.ug_rules.specs.State.{BookState, held_nodes}
 use Rattle.ug_rules.specs.Books.{IsBook, IsSoundBook}
 use Rattle.ug_world.specs.declared.event.Event.{Event}
 use Rattle.ug_world.specs.Events.{IsEvent}
-use Rattle.ug_world.specs.Worlds.{IsCourse, World, opening}
+use Rattle.ug_world.specs.Worlds.{IsTrace, World, opening}
 use Rattle.ug_world.specs.Honest.{IsHonest}
 
 -- nodes that have each primitive node held are Covered: each better point lies in one of them
@@ -29,8 +29,8 @@ pub record LosesNothing (b : BookState) : Type 0 where
 -- each list, as long as solvers are honest, no better point is lost
 abbrev pub HonestLoseNothing : Type 0
 HonestLoseNothing =
-    (b : BookState) (earlier : List Report) (events : List Event) (course : List World)
+    (b : BookState) (earlier : List Report) (events : List Event) (trace : List World)
     → IsBook b → IsSoundBook b → b.last ≡ 0
     → All (IsEvent (length b.ranks)) events
-    → IsCourse (opening b earlier) events course
-    → All IsHonest course → All (λ (w : World). LosesNothing w.book) course
+    → IsTrace (opening b earlier) events trace
+    → All IsHonest trace → All (λ (w : World). LosesNothing w.book) trace

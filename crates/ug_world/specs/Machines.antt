@@ -161,12 +161,12 @@ HappensOnDisk old (Crash zero one settings) new =
 HappensOnDisk old (Stop settings) new = HasRestarted settings old new
 
 -- what stands after each of the events, one after another
-abbrev pub IsDiskCourse : DiskWorld → List DiskEvent → List DiskWorld → Type 0
-IsDiskCourse old [] [] = Unit {0}
-IsDiskCourse old (event ∷ events) (new ∷ course) =
-    HappensOnDisk old event new × IsDiskCourse new events course
-IsDiskCourse old [] (new ∷ course) = ⊥
-IsDiskCourse old (event ∷ events) [] = ⊥
+abbrev pub IsDiskTrace : DiskWorld → List DiskEvent → List DiskWorld → Type 0
+IsDiskTrace old [] [] = Unit {0}
+IsDiskTrace old (event ∷ events) (new ∷ trace) =
+    HappensOnDisk old event new × IsDiskTrace new events trace
+IsDiskTrace old [] (new ∷ trace) = ⊥
+IsDiskTrace old (event ∷ events) [] = ⊥
 
 -- the disk as the last crash of these events left it, or as it was where there is none
 abbrev pub last_left : History → List DiskEvent → History
@@ -176,4 +176,4 @@ last_left told (event ∷ events) = last_left (left_by event told) events
 -- the world at the end of a course
 abbrev pub disk_end_of : DiskWorld → List DiskWorld → DiskWorld
 disk_end_of old [] = old
-disk_end_of old (new ∷ course) = disk_end_of new course
+disk_end_of old (new ∷ trace) = disk_end_of new trace

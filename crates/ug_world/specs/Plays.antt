@@ -8,7 +8,7 @@ use Rattle.ug_world.specs.declared.schedule.Played.{Played}
 use Rattle.ug_world.specs.declared.schedule.PlayFault.{PlayFault}
 use Rattle.ug_world.specs.declared.schedule.PlayFault.TheVariants.{NoSuch, Memory}
 use Rattle.ug_world.specs.Events.{IsMissing}
-use Rattle.ug_world.specs.Worlds.{IsCourse, World, end_of, opening}
+use Rattle.ug_world.specs.Worlds.{IsTrace, World, end_of, opening}
 use Rattle.ug_world.specs.Honest.{IsHonest}
 use Rattle.ug_world.specs.Laws.{LosesNothing}
 
@@ -23,24 +23,24 @@ IsLeftBy (Some Tell) old new = new ≡ old
 IsLeftBy event old new = ⊥
 
 -- this number of events happened to the book, with nothing sent earlier, and this is the world
-pub record IsAfter (b : BookState) (events : List Event) (done : ℕ) (course : List World)
+pub record IsAfter (b : BookState) (events : List Event) (done : ℕ) (trace : List World)
     (left : BookState) : Type 0 where
-  pub happened : IsCourse (opening b []) (take done events) course
-  pub stands : IsLeftBy (slice_get events done) (end_of (opening b []) course).book left
+  pub happened : IsTrace (opening b []) (take done events) trace
+  pub stands : IsLeftBy (slice_get events done) (end_of (opening b []) trace).book left
 
 -- all of the events happened
 pub record IsPlayed (b : BookState) (events : List Event) (played : Played) : Type 0 where
-  pub course : List World
-  pub after : IsAfter b events (length events) course played.book
-  pub replies : played.replies ≡ (end_of (opening b []) course).replies
+  pub trace : List World
+  pub after : IsAfter b events (length events) trace played.book
+  pub replies : played.replies ≡ (end_of (opening b []) trace).replies
 
 -- this number of events happened, and the next is the first that receives a report that was not
 -- sent
 pub record IsNoSuch (b : BookState) (events : List Event) (place : ℕ) (left : BookState)
     : Type 0 where
   pub done : ℕ
-  pub course : List World
-  pub after : IsAfter b events done course left
+  pub trace : List World
+  pub after : IsAfter b events done trace left
   pub missing : IsMissing events done place
   pub first : (k other : ℕ) → k < done → ¬ IsMissing events k other
 
@@ -48,8 +48,8 @@ pub record IsNoSuch (b : BookState) (events : List Event) (place : ℕ) (left : 
 pub record IsOutOfMemory (b : BookState) (events : List Event) (done : ℕ) (left : BookState)
     : Type 0 where
   pub there : done < length events
-  pub course : List World
-  pub after : IsAfter b events done course left
+  pub trace : List World
+  pub after : IsAfter b events done trace left
 
 -- why not all of the events happened
 abbrev pub IsStopped : BookState → List Event → PlayFault → Type 0
@@ -69,5 +69,5 @@ book_left (Err (Memory left done)) = left
 -- as long as solvers are honest, no better point is lost, wherever the play stopped
 abbrev pub HonestLeave : BookState → List Event → BookState → Type 0
 HonestLeave b events left =
-    (done : ℕ) (course : List World) → IsAfter b events done course left
-    → All IsHonest course → LosesNothing left
+    (done : ℕ) (trace : List World) → IsAfter b events done trace left
+    → All IsHonest trace → LosesNothing left

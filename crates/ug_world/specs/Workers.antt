@@ -9,11 +9,11 @@ use Rattle.ug_book.specs.Openings.{opening_book}
 use Rattle.ug_book.specs.Views.{IsSameRun}
 use Rattle.ug_restart.specs.declared.outcome.End.{End}
 use Rattle.ug_restart.specs.Outcomes.{HasFeasible, IfAnswered, IfBook, IfLimited, IsLimited, IsRight}
-use Rattle.ug_coord.specs.Deeds.{HubState}
+use Rattle.ug_coord.specs.Actions.{CoordinatorState}
 use Rattle.ug_coord.specs.Ends.{IsAtLimit}
-use Rattle.ug_coord.specs.Hubs.{HasCome, StaysSound, beginning}
+use Rattle.ug_coord.specs.Coordinators.{Reaches, StaysSound, beginning}
 use Rattle.ug_coord.specs.Keeping.{IsKeptSafe}
-use Rattle.ug_serve.specs.Staffs.{AreAlwaysWorked}
+use Rattle.ug_serve.specs.SimWorkers.{AreAlwaysWorked}
 use Rattle.ug_world.specs.Laws.{LosesNothing}
 
 -- the book has given no ticket, and no order waits
@@ -25,8 +25,8 @@ pub record IsUnused (b : BookState) : Type 0 where
 -- are what a worker sends that receives what was sent to the rank, then at each moment the book is
 -- sound, so no better point is lost. Nothing is assumed of what the workers send.
 abbrev pub CoordinatorsOfWorkersLoseNothing : Type 0
-CoordinatorsOfWorkersLoseNothing = (b : BookState) (faults : ℕ) (now : HubState)
-    (come : HasCome (beginning b faults) now) → IsBook b ⊎ (come.deeds ≡ []) → IsSoundBook b → IsUnused b
+CoordinatorsOfWorkersLoseNothing = (b : BookState) (faults : ℕ) (now : CoordinatorState)
+    (come : Reaches (beginning b faults) now) → IsBook b ⊎ (come.actions ≡ []) → IsSoundBook b → IsUnused b
     → AreAlwaysWorked now.said
     → StaysSound (beginning b faults) now come × LosesNothing now.book
 

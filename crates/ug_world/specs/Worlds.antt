@@ -65,13 +65,13 @@ Happens old Decide new = HasDecided old new
 Happens old Tell new = new ≡ told_first old.book.orders old
 
 -- the worlds after each of the events, one after another
-abbrev pub IsCourse : World → List Event → List World → Type 0
-IsCourse old [] [] = Unit {0}
-IsCourse old (event ∷ events) (new ∷ course) = Happens old event new × IsCourse new events course
-IsCourse old [] (new ∷ course) = ⊥
-IsCourse old (event ∷ events) [] = ⊥
+abbrev pub IsTrace : World → List Event → List World → Type 0
+IsTrace old [] [] = Unit {0}
+IsTrace old (event ∷ events) (new ∷ trace) = Happens old event new × IsTrace new events trace
+IsTrace old [] (new ∷ trace) = ⊥
+IsTrace old (event ∷ events) [] = ⊥
 
 -- the world at the end of a course
 abbrev pub end_of : World → List World → World
 end_of old [] = old
-end_of old (new ∷ course) = end_of new course
+end_of old (new ∷ trace) = end_of new trace

@@ -5,7 +5,7 @@ ghost use Rattle.ug_io.specs.Outside.{IsCalm};
 ghost use Rattle.ug_checkpoint.specs.Savers.{IsKept};
 ghost use Rattle.ug_book.specs.Openings.{IsCoveredOpening, IsOpening, opening_book};
 ghost use Rattle.ug_restart.specs.Outcomes.{IsStranded};
-ghost use Rattle.ug_coord.specs.Hubs.{HasCoordinated, IsFresh};
+ghost use Rattle.ug_coord.specs.Coordinators.{HasCoordinated, IsFresh};
 ghost use Rattle.ug_coord.specs.Keeping.{AreEachSaved, HasKept, IsKeptSafe};
 ghost use Rattle.ug_serve.specs.WorkerCrews.{crew_seen};
 ghost use Rattle.ug_world.specs.Workers.{HasSolved};

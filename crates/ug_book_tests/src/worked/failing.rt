@@ -112,12 +112,14 @@ impl<'a> WrongCrew<'a> {
     }
 
     // Lets a worker want memory, where that is due in this turn.
-    fn exhaust(&mut self)
+    fn inject_out_of_memory(&mut self)
         ensures seen { crew_seen self.new.workers ≡ crew_seen self.old.workers }
         ensures faults { self.new.faults ≡ self.old.faults }
     {
         match self.wrong {
-            Wrong::Wants { rank, turn } if turn == self.turns => self.workers.exhaust(rank),
+            Wrong::Wants { rank, turn } if turn == self.turns => self
+                .workers
+                .inject_out_of_memory(rank),
             _ => {}
         }
     }
@@ -167,7 +169,7 @@ impl Crew for WrongCrew<'_> {
             self.fail();
             return Ok(Came::Gone { rank });
         }
-        self.exhaust();
+        self.inject_out_of_memory();
         match self.workers.turn(buffer) {
             Ok(Came::Bytes { rank, count }) => {
                 self.spoil(rank, buffer);

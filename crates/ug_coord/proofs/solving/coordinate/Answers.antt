@@ -1,6 +1,6 @@
 use Rattle.std.proofs.Common.{sym, subst}
 use Rattle.ug_book.specs.Openings.{opening_book}
-use Rattle.ug_coord.specs.Hubs.{HasCoordinated}
+use Rattle.ug_coord.specs.Coordinators.{HasCoordinated}
 use Rattle.ug_coord.specs.Keeping.{AreEachSaved, HasKept, IsKeptSafe}
 use Rattle.ug_coord.proofs.Causes.{opening_alive}
 use Rattle.ug_coord.proofs.Ends.{begun_so, its_saver, nothing_coordinated, nothing_kept}

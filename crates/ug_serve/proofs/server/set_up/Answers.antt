@@ -4,7 +4,7 @@ use mir.Syntax.{w128}
 use Rattle.ug_frames.specs.declared.order.Order.TheVariants.{Setup}
 use Rattle.ug_problem.specs.Instances.{Instance}
 use Rattle.ug_records.specs.Answers.{IsRecordOf, IsRefused}
-use Rattle.ug_serve.specs.Deeds.{Basis, Blank, SetUp}
+use Rattle.ug_serve.specs.Actions.{Basis, Blank, SetUp}
 use Rattle.ug_serve.specs.Serving.{stands_as}
 use Rattle.ug_serve.proofs.Seating.{taken_on}
 use Rattle.ug_serve.proofs.server.set_up.Goals as goal

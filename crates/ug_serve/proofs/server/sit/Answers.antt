@@ -2,11 +2,11 @@ use Rattle.std.proofs.Common.{rules, ◌≡◌, false, None, Some, refl, sym, su
 use Rattle.std.proofs.lemmas.Int.{to_z-of_z}
 use mir.Syntax.{w128}
 use mir.Val.{of_z, to_z}
-use Rattle.ug_serve.specs.Deeds.{Free}
+use Rattle.ug_serve.specs.Actions.{Free}
 use Rattle.ug_serve.specs.SeatViews.{seat_seen}
 use Rattle.ug_worker.specs.Renewals.{fresh, usual}
 use Rattle.ug_serve.specs.Seats.{IsSeated}
-use Rattle.ug_serve.specs.Deeds.{Basis, SetUp}
+use Rattle.ug_serve.specs.Actions.{Basis, SetUp}
 use Rattle.ug_serve.proofs.server.sit.Goals as goal
 
 pub seated-requires : goal.seated-requires

@@ -1,5 +1,5 @@
 use Rattle.ug_stream.specs.Streams.{first}
-use Rattle.ug_serve.specs.Deeds.{Blank}
+use Rattle.ug_serve.specs.Actions.{Blank}
 use Rattle.ug_serve.proofs.Wires.{on_fresh, wanted_on}
 use Rattle.ug_serve.proofs.serving.serve.Goals as goal
 

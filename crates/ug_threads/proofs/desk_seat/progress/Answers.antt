@@ -1,4 +1,4 @@
-use Rattle.ug_threads.proofs.Courses.{stayed_copy, stayed_not, stayed_then}
+use Rattle.ug_threads.proofs.Traces.{stayed_copy, stayed_not, stayed_then}
 use Rattle.ug_threads.proofs.desk_seat.progress.Goals as goal
 
 pub returns-in_err-ok : goal.returns-in_err-ok

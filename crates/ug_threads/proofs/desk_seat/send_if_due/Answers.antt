@@ -1,4 +1,4 @@
-use Rattle.ug_threads.proofs.Courses.{stayed_copy}
+use Rattle.ug_threads.proofs.Traces.{stayed_copy}
 use Rattle.ug_threads.proofs.desk_seat.send_if_due.Goals as goal
 
 pub returns-in-Ok : goal.returns-in-Ok

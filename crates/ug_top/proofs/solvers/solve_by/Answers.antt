@@ -2,7 +2,7 @@ use Rattle.std.proofs.Common.{◌≡◌, None, Some, sym, subst, rules}
 use Rattle.std.proofs.lemmas.List.{length-replicate}
 use Rattle.ug_ranks.specs.declared.state.State.TheVariants.{Absent}
 use Rattle.ug_book.specs.Openings.{opening_book}
-use Rattle.ug_coord.specs.Hubs.{IsFresh}
+use Rattle.ug_coord.specs.Coordinators.{IsFresh}
 use Rattle.ug_coord.specs.Keeping.{AreEachSaved, IsKeptSafe}
 use Rattle.ug_top.specs.Solved.{FitsCrew, HasSolvedSafely, crewed}
 use Rattle.ug_top.specs.Outside.{seen_if}

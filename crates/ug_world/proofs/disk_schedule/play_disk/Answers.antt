@@ -4,7 +4,7 @@ use Rattle.std.proofs.lemmas.List.{take_more}
 use Rattle.std.proofs.lemmas.Option.{slice_get_past}
 use Rattle.ug_world.specs.Saves.{store}
 use Rattle.ug_world.specs.Machines.{beginning, world_of}
-use Rattle.ug_world.specs.DiskPlays.{HasCome, IsHaltedAt}
+use Rattle.ug_world.specs.DiskPlays.{Reaches, IsHaltedAt}
 use Rattle.ug_world.proofs.DiskPlays.{one_more, played_lost, stopped_lost}
 use Rattle.ug_world.proofs.disk_schedule.play_disk.Goals as goal
 
@@ -33,7 +33,7 @@ returns-in-None-clause-played c =
     let w = world_of c.loop-done.machine in
     record {
       w = w;
-      come = subst (λ n. HasCome start events n w) all c.loop-done.invariant.come;
+      come = subst (λ n. Reaches start events n w) all c.loop-done.invariant.come;
       goes_on = sym c.refused.ensures ∙ c.in-None.is;
       is_left = c.end.ensures;
     }
@@ -57,7 +57,7 @@ returns-in-Some-clause-stopped c =
     let w = world_of c.loop-done.machine in
     record {
       w = w;
-      come = subst (λ n. HasCome start events n w) all c.loop-done.invariant.come;
+      come = subst (λ n. Reaches start events n w) all c.loop-done.invariant.come;
       new = w;
       halted = subst (λ next. IsHaltedAt next w w fault.why) (sym none) (
         record {

@@ -1,4 +1,4 @@
-use Rattle.ug_world.proofs.Courses.{honest_lose_nothing}
+use Rattle.ug_world.proofs.Traces.{honest_lose_nothing}
 use Rattle.ug_world.proofs.law.honest_solvers_lose_nothing.Goals as goal
 
 pub returns : goal.returns

@@ -3,7 +3,7 @@ use Rattle.std.proofs.lemmas.List.{take_more}
 use Rattle.std.proofs.lemmas.Option.{slice_get-get_or}
 use Rattle.std.specs.Prelude.{Some, slice_get}
 use Rattle.ug_world.specs.Plays.{IsStopped}
-use Rattle.ug_world.proofs.Courses.{honest_leave}
+use Rattle.ug_world.proofs.Traces.{honest_leave}
 use Rattle.ug_world.proofs.Plays.{IsUnderWay, all_there, halted_so, played_so, under_way_more}
 use Rattle.ug_world.proofs.schedule.play.Goals as goal
 

@@ -2,7 +2,7 @@ use Rattle.std.proofs.Common.{sym, subst, refl}
 use Rattle.std.proofs.lemmas.List.{length-replicate}
 use Rattle.ug_ranks.specs.declared.state.State.TheVariants.{Absent}
 use Rattle.ug_book.specs.Openings.{opening_book}
-use Rattle.ug_coord.specs.Hubs.{IsFresh}
+use Rattle.ug_coord.specs.Coordinators.{IsFresh}
 use Rattle.ug_coord.specs.Keeping.{AreEachSaved, IsKeptSafe}
 use Rattle.ug_serve.specs.WorkerCrews.{crew_seen, exchanged_of}
 use Rattle.ug_world.proofs.Solved.{has_solved, never_stranded}

@@ -1,6 +1,6 @@
 use Rattle.std.proofs.Common.{subst}
 use Rattle.ug_frames.specs.declared.order.Order.TheVariants.{Work}
-use Rattle.ug_serve.specs.Deeds.{Free}
+use Rattle.ug_serve.specs.Actions.{Free}
 use Rattle.ug_serve.specs.SeatViews.{seat_seen}
 use Rattle.ug_serve.specs.Seats.{basis_of}
 use Rattle.ug_problem.specs.Instances.{root_of}

@@ -5,7 +5,7 @@ use Rattle.std.proofs.lemmas.Int.{fits_signed_from_abs, to_z-of_z}
 use mir.Syntax.{w128}
 use Rattle.ug_frames.specs.declared.order.Order.TheVariants.{Setup, Work}
 use Rattle.ug_serve.specs.Seats.{IsGoing}
-use Rattle.ug_serve.specs.Deeds.{Busy}
+use Rattle.ug_serve.specs.Actions.{Busy}
 use Rattle.ug_serve.specs.SeatViews.{seat_seen}
 use Rattle.ug_serve.specs.Seats.{IsOrdered, basis_of}
 use Rattle.ug_serve.proofs.Seating.{stop_obeyed, asked_going, lowered_going, seated_ended, won_going}

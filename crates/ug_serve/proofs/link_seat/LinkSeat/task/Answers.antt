@@ -3,7 +3,7 @@ use Rattle.ug_rows.specs.declared.area.Interval.{Interval}
 use Rattle.ug_rows.specs.Boxes.{IsBelow}
 use Rattle.ug_problem.specs.Instances.{root_of}
 use Rattle.ug_nodes.specs.Changes.{AreChangesOf, IsAreaRefused, area_by}
-use Rattle.ug_serve.specs.Deeds.{task_of}
+use Rattle.ug_serve.specs.Actions.{task_of}
 use Rattle.ug_serve.specs.Seats.{basis_of}
 use Rattle.ug_serve.proofs.link_seat.LinkSeat.task.Goals as goal
 

@@ -1,7 +1,7 @@
 use Rattle.std.proofs.Common.{refl, sym, ap, ◌∙◌}
 use Rattle.std.proofs.Common.{List, length}
 use Rattle.ug_rows.specs.declared.area.Interval.{Interval}
-use Rattle.ug_serve.specs.Deeds.{Busy, Free}
+use Rattle.ug_serve.specs.Actions.{Busy, Free}
 use Rattle.ug_serve.specs.Seats.{basis_of}
 use Rattle.ug_serve.proofs.link_seat.LinkSeatSeat.done.Goals as goal
 

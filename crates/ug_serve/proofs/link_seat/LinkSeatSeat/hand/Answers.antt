@@ -5,7 +5,7 @@ use Rattle.ug_rows.specs.Boxes.{IsBelow}
 use Rattle.ug_problem.specs.Instances.{root_of}
 use Rattle.ug_nodes.specs.Changes.{Spells}
 use Rattle.ug_serve.specs.Seats.{Agrees}
-use Rattle.ug_serve.specs.Deeds.{Busy}
+use Rattle.ug_serve.specs.Actions.{Busy}
 use Rattle.ug_serve.specs.Seats.{basis_of}
 use Rattle.ug_serve.proofs.Seating.{handed_agrees}
 use Rattle.ug_serve.proofs.Carried.{hand_carried, handed_area}

@@ -1,4 +1,4 @@
-use Rattle.ug_serve.specs.Deeds.{Busy}
+use Rattle.ug_serve.specs.Actions.{Busy}
 use Rattle.ug_serve.specs.Seats.{basis_of}
 use Rattle.ug_serve.proofs.link_seat.LinkSeatSeat.look.Goals as goal
 

@@ -1,5 +1,5 @@
 use Rattle.std.proofs.Common.{refl, sym}
-use Rattle.ug_serve.specs.Deeds.{Busy}
+use Rattle.ug_serve.specs.Actions.{Busy}
 use Rattle.ug_serve.specs.Seats.{basis_of}
 use Rattle.ug_serve.proofs.Seating.{found_agrees}
 use Rattle.ug_serve.proofs.Carried.{solution_carried}

@@ -1,7 +1,7 @@
 use Rattle.std.proofs.Common.{refl, sym, ap}
 use Rattle.std.proofs.lemmas.Int.{to_z-of_z}
 use mir.Syntax.{w128}
-use Rattle.ug_serve.specs.Deeds.{Busy}
+use Rattle.ug_serve.specs.Actions.{Busy}
 use Rattle.ug_serve.specs.Seats.{basis_of}
 use Rattle.ug_worker.specs.Engagements.{Engaged}
 use Rattle.ug_worker.specs.Renewals.{counted}

@@ -1,6 +1,6 @@
 use Rattle.std.proofs.Common.{refl}
 use Rattle.ug_frames.specs.declared.order.Order.TheVariants.{End}
-use Rattle.ug_serve.specs.Deeds.{Ending, Over}
+use Rattle.ug_serve.specs.Actions.{Ending, Over}
 use Rattle.ug_serve.proofs.Seating.{ended_by, ended_over, taken_on}
 use Rattle.ug_serve.proofs.wire.Wire.finish.Goals as goal
 

@@ -1,4 +1,4 @@
-use Rattle.ug_serve.specs.Deeds.{Stage}
+use Rattle.ug_serve.specs.Actions.{Stage}
 use Rattle.ug_serve.specs.Serving.{IsOpen, stands_as}
 use Rattle.ug_serve.proofs.wire.Wire.next.Given as goal
 

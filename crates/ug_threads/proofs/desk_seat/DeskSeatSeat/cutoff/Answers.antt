@@ -1,4 +1,4 @@
-use Rattle.ug_threads.proofs.Courses.{seat_read}
+use Rattle.ug_threads.proofs.Traces.{seat_read}
 use Rattle.ug_threads.proofs.desk_seat.DeskSeatSeat.cutoff.Goals as goal
 
 pub returns-clause-known : goal.returns-clause-known

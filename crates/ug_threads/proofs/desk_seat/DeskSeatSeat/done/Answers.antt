@@ -1,4 +1,4 @@
-use Rattle.ug_threads.proofs.Courses.{done_known, done_problem, seat_ended, stay_seated}
+use Rattle.ug_threads.proofs.Traces.{done_known, done_problem, seat_ended, stay_seated}
 use Rattle.std.proofs.Common.{None}
 use Rattle.ug_threads.proofs.desk_seat.DeskSeatSeat.done.Goals as goal
 

@@ -1,4 +1,4 @@
-use Rattle.ug_threads.proofs.Courses.{seat_gone}
+use Rattle.ug_threads.proofs.Traces.{seat_gone}
 use Rattle.ug_threads.proofs.desk_seat.DeskSeatSeat.give_up.Goals as goal
 
 pub returns-clause-over : goal.returns-clause-over

@@ -2,8 +2,8 @@ use Rattle.std.proofs.Common.{Some, Result, Ok, Err, rules}
 use Rattle.std.specs.Prelude.{OnErr, OnOk}
 use Rattle.ug_worker.specs.declared.search.Asked.{Asked}
 use Rattle.ug_worker.specs.Engagements.{Stands}
-use Rattle.ug_threads.specs.Courses.{IsSeated}
-use Rattle.ug_threads.proofs.Courses.{seat_handed, stay_seated}
+use Rattle.ug_threads.specs.Traces.{IsSeated}
+use Rattle.ug_threads.proofs.Traces.{seat_handed, stay_seated}
 use Rattle.ug_threads.proofs.desk_seat.DeskSeatSeat.hand.Goals as goal
 
 on_ok : {T E : Type 0} (result : Result T E) (P : Type 0) → P → OnOk result P

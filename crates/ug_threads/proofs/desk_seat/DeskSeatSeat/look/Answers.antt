@@ -1,5 +1,5 @@
 use Rattle.std.proofs.Common.{rules}
-use Rattle.ug_threads.proofs.Courses.{seat_looked}
+use Rattle.ug_threads.proofs.Traces.{seat_looked}
 use Rattle.ug_threads.proofs.desk_seat.DeskSeatSeat.look.Goals as goal
 
 pub returns-clause-replied : goal.returns-clause-replied

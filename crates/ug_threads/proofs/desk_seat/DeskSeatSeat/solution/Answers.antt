@@ -1,5 +1,5 @@
 use Rattle.std.proofs.Common.{Some, None}
-use Rattle.ug_threads.proofs.Courses.{seat_dropped, seat_found, stay_seated, stayed_then, match_both}
+use Rattle.ug_threads.proofs.Traces.{seat_dropped, seat_found, stay_seated, stayed_then, match_both}
 use Rattle.ug_threads.proofs.desk_seat.DeskSeatSeat.solution.Goals as goal
 
 pub returns-clause-found : goal.returns-clause-found

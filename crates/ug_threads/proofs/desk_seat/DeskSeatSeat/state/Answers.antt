@@ -4,7 +4,7 @@ use mir.Syntax.{w128}
 use Rattle.std.proofs.lemmas.Int.{to_z-of_z}
 use Rattle.ug_desk.specs.Histories.{stated}
 use Rattle.ug_desk.specs.Passes.{HasCalledAt}
-use Rattle.ug_threads.proofs.Courses.{seat_answered, seat_unanswered, stayed_then}
+use Rattle.ug_threads.proofs.Traces.{seat_answered, seat_unanswered, stayed_then}
 use Rattle.ug_threads.proofs.desk_seat.DeskSeatSeat.state.Goals as goal
 
 pub returns-clause-replied : goal.returns-clause-replied

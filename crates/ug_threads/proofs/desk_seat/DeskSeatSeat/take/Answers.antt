@@ -1,4 +1,4 @@
-use Rattle.ug_threads.proofs.Courses.{seat_taken, seat_untaken}
+use Rattle.ug_threads.proofs.Traces.{seat_taken, seat_untaken}
 use Rattle.ug_threads.proofs.desk_seat.DeskSeatSeat.take.Goals as goal
 
 pub returns-clause-took : goal.returns-clause-took
