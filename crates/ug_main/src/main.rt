@@ -46,7 +46,7 @@ use ug_cli::{Asked, Mode, Plan, Usage, crossed_is_not_taken, read_words, words_t
 use ug_disk::Disk;
 use ug_io::{Crew, Link, Sink, Source};
 use ug_real::{
-    Children, FileDisk, ProcessCrew, Reader, RealFolder, SocketFolder, SocketLink, Writer,
+    ChildCommand, FileDisk, ProcessCrew, Reader, RealFolder, SocketFolder, SocketLink, Writer,
 };
 use ug_restart::{Host, Observer};
 use ug_top::{Objects, Ran, Status, run, tell_unread};
@@ -246,7 +246,7 @@ where
             } else {
                 SocketFolder::Given(sockets)
             };
-            let children = Children {
+            let children = ChildCommand {
                 program: called.name.as_str(),
                 sockets,
             };

@@ -5,7 +5,7 @@ use Rattle.std.proofs.lemmas.List.{append_assoc, take_rest}
 use lib.Seq.{take-add, drop-drop}
 use Rattle.std.specs.Io.KnownBytes.{Appends}
 use Rattle.std.proofs.KnownBytes.{Appends-trans}
-use Rattle.ug_real.specs.declared.outbox.Outbox.{Outbox}
+use Rattle.ug_real.specs.declared.send_queue.SendQueue.{SendQueue}
 use Rattle.ug_real.specs.Outboxes.{HasWritten, own_waiting, rest_of, waiting}
 
 -- bytes that were written behind the first `s` are with these the first `s + n`
@@ -20,7 +20,7 @@ left_whole s n bs = sym (take-append-drop n (drop s bs))
     ∙ ap (λ l. take n (drop s bs) ++ l) (drop-drop n s bs)
 
 -- without shared bytes the others are all that wait
-pub waiting_own : (o : Outbox) → o.ahead ≡ None → waiting o ≡ own_waiting o
+pub waiting_own : (o : SendQueue) → o.ahead ≡ None → waiting o ≡ own_waiting o
 waiting_own o none = ap (λ a. rest_of a o.gone ++ own_waiting o) none
 
 -- the rest of shared bytes of which `n` more went

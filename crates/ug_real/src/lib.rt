@@ -9,39 +9,39 @@
 //! implementations show no bytes: no contract can say what a real file or socket returns, or what a
 //! terminal accepts.
 //!
-//! A `ProcessCrew` has a `Pack`: a `Herd` of `Peer`s behind one poll. A peer is one child: its
-//! connection, an `Outbox` that holds the bytes not written yet, and a `Ward`, the child process.
-//! Dropping a ward ends its process, and dropping the `SocketFile` of a child that has not
-//! connected removes the file, so none is left.
+//! A `ProcessCrew` has a `ChildCrew`: a `Children` of `Child`s behind one poll. A peer is one
+//! child: its connection, an `SendQueue` that holds the bytes not written yet, and a
+//! `ChildProcess`, the child process. Dropping a child process ends its process, and dropping the
+//! `SocketFile` of a child that has not connected removes the file, so none is left.
 #![tactic(auto)]
 
 mod again;
 mod cause;
+mod child;
+mod child_crew;
+mod child_process;
+mod children;
 mod departure;
 mod disk;
 mod faults;
 mod folder;
-mod herd;
 mod kept;
-mod outbox;
-mod pack;
-mod peer;
 mod process_crew;
 mod reader;
 mod real_folder;
 mod saves;
+mod send_queue;
 mod shared_bytes;
 mod slot_copies;
 mod slot_files;
 mod socket_link;
 mod sockets;
-mod ward;
 mod writer;
 
+pub use child_crew::ChildCommand;
 pub use departure::{Departure, Watcher};
 pub use disk::FileDisk;
 pub use folder::Folder;
-pub use pack::Children;
 pub use process_crew::ProcessCrew;
 pub use reader::Reader;
 pub use real_folder::RealFolder;

@@ -2,10 +2,10 @@ ghost use Rattle.std.specs.Prelude.{◌≡◌, ◌≤◌, None, false, length, r
 ghost use Rattle.ug_io.specs.Crews.{HasTurned, IsAlive};
 ghost use Rattle.ug_io.specs.Outside.{Rose};
 
+use crate::child_crew::{ChildCommand, ChildCrew};
+use crate::children::Heard;
 use crate::departure::{Departure, Watcher};
 use crate::faults::Faults;
-use crate::herd::Heard;
-use crate::pack::{Children, Pack};
 use std::alloc::{AllocError, Global};
 use std::fs::File;
 use std::io;
@@ -24,7 +24,7 @@ pub struct ProcessCrew<'a, R: Files<File = File>, W: Drop> {
     lives: Vec<bool>,
     faults: Faults,
     is_finished: bool,
-    pack: Pack<'a, R, W>,
+    child_crew: ChildCrew<'a, R, W>,
 }
 
 // Returns the error of a turn of a crew in which no rank is alive.
@@ -76,7 +76,7 @@ where
         rt: &'a R,
         alloc: Global,
         ranks: u32,
-        children: Children<'a>,
+        command: ChildCommand<'a>,
         watcher: W,
     ) -> Result<ProcessCrew<'a, R, W>, AllocError>
         ensures lives { IfOk result (λ crew. crew.lives.items ≡ replicate ranks false) }
@@ -84,7 +84,7 @@ where
     {
         match vec![in alloc; false; ranks as usize] {
             Ok(lives) => Ok(ProcessCrew {
-                pack: Pack::new(rt, alloc, children, watcher),
+                child_crew: ChildCrew::new(rt, alloc, command, watcher),
                 lives,
                 faults: Faults::new(),
                 is_finished: false,
@@ -118,14 +118,14 @@ where
     }
 
     fn launch(&mut self, rank: u32) -> Result<(), Failed> {
-        match self.pack.launch(rank) {
+        match self.child_crew.launch(rank) {
             Ok(()) => {
                 self.lives[rank as usize] = true;
                 Ok(())
             }
             Err(error) => {
                 let why = Departure::Unstarted(error);
-                self.pack.watcher.gone(rank, &why);
+                self.child_crew.watcher.gone(rank, &why);
                 drop(why);
                 Err(self.faults.rise())
             }
@@ -136,16 +136,16 @@ where
         if !self.lives.contains(&true) {
             return Err(self.faults.add(nobody()));
         }
-        let got = self.pack.turn(buffer);
+        let got = self.child_crew.turn(buffer);
         came(&mut self.lives, &mut self.faults, buffer, got)
     }
 
     fn send(&mut self, rank: u32, bytes: &[u8]) -> Result<(), Failed> {
-        match self.pack.herd.send(rank, bytes) {
+        match self.child_crew.children.send(rank, bytes) {
             Ok(()) => Ok(()),
             Err(error) => {
                 let why = Departure::Untold(error);
-                self.pack.watcher.gone(rank, &why);
+                self.child_crew.watcher.gone(rank, &why);
                 drop(why);
                 Err(self.faults.rise())
             }
@@ -153,12 +153,12 @@ where
     }
 
     fn shut(&mut self, rank: u32) {
-        self.pack.herd.shut(rank);
+        self.child_crew.children.shut(rank);
         self.lives[rank as usize] = false;
     }
 
     fn finish(&mut self) {
-        self.pack.finish();
+        self.child_crew.finish();
         self.is_finished = true;
     }
 }

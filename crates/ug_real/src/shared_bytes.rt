@@ -1,7 +1,7 @@
 ghost use Rattle.std.specs.Prelude.{◌≡◌, ◌++◌, false, IfErr, IfOk, OnOk};
 ghost use Rattle.ug_real.specs.Outboxes.{IsUnsent, waiting};
 
-use crate::outbox::{Outbox, Unsent};
+use crate::send_queue::{SendQueue, Unsent};
 use std::alloc::{AllocError, Global};
 use std::marker::Model;
 use std::sync::Arc;
@@ -85,16 +85,16 @@ impl SharedFrame {
     }
 
     /// Queues the bytes in an outbox, which shares them if they are a long frame.
-    pub fn queue(&mut self, outbox: &mut Outbox, bytes: &[u8]) -> Result<(), Unsent>
-        ensures ok { OnOk result (outbox.old.is_closed ≡ false
-            → waiting outbox.new ≡ waiting outbox.old ++ bytes.now) }
-        ensures err { IfErr result (IsUnsent outbox.old outbox.new) }
+    pub fn queue(&mut self, send_queue: &mut SendQueue, bytes: &[u8]) -> Result<(), Unsent>
+        ensures ok { OnOk result (send_queue.old.is_closed ≡ false
+            → waiting send_queue.new ≡ waiting send_queue.old ++ bytes.now) }
+        ensures err { IfErr result (IsUnsent send_queue.old send_queue.new) }
     {
         if bytes.len() < SHARED {
-            return outbox.push(bytes);
+            return send_queue.push(bytes);
         }
         match self.holder(bytes) {
-            Ok(own) => outbox.push_shared(own),
+            Ok(own) => send_queue.push_shared(own),
             Err(_) => Err(Unsent::Memory),
         }
     }

@@ -18,7 +18,7 @@ const HELD: usize = 8_192;
 /// The number of microseconds for which written bytes may wait for more, and for which no new read
 /// is tried without waiting. A round of a small problem takes a few microseconds, and a system call
 /// as many.
-const GATHER: u64 = 100;
+const GATHER_MICROSECONDS: u64 = 100;
 
 /// A worker's end of a Unix socket as a link. The first call connects; if that fails, the call
 /// fails. Written bytes wait until the next read that waits, or that is the first one in 100
@@ -36,7 +36,7 @@ pub struct SocketLink<'a, R> {
 // The path of a socket, and the connection once there is one.
 #[derive(Drop)]
 struct Wire<'a, R> {
-    line: Option<Line>,
+    connection: Option<Connection>,
     path: &'a str,
     alloc: Global,
     rt: &'a R,
@@ -45,7 +45,7 @@ struct Wire<'a, R> {
 // A connection: do its calls wait, did the last read return bytes, and when was it last read
 // without waiting?
 #[derive(Drop)]
-struct Line {
+struct Connection {
     stream: BufWriter<UnixStream, Global>,
     waits: bool,
     has_read: bool,
@@ -64,7 +64,7 @@ impl<'a, R: Net + Clock> SocketLink<'a, R> {
                 rt,
                 alloc,
                 path,
-                line: None,
+                connection: None,
             },
             has_ended: false,
             faults: Faults::new(),
@@ -77,7 +77,7 @@ impl<'a, R: Net + Clock> SocketLink<'a, R> {
     }
 }
 
-impl Line {
+impl Connection {
     // Makes its calls wait from now on, or not.
     fn set(&mut self, waits: bool) -> io::Result<()> {
         if waits != self.waits {
@@ -92,7 +92,7 @@ impl Line {
     fn is_due(&mut self, clock: &impl Clock) -> bool {
         let now = Instant::now(clock).ok();
         if let (Some(looked), Some(now)) = (self.looked, now) {
-            if now.duration_since(looked) < Duration::from_micros(GATHER) {
+            if now.duration_since(looked) < Duration::from_micros(GATHER_MICROSECONDS) {
                 return false;
             }
         }
@@ -219,10 +219,10 @@ impl Line {
 }
 
 // Connects to the socket of a path.
-fn connected<R: Net>(rt: &R, alloc: Global, path: &str) -> io::Result<Line> {
+fn connected<R: Net>(rt: &R, alloc: Global, path: &str) -> io::Result<Connection> {
     match UnixStream::connect(rt, path) {
         Ok(stream) => match BufWriter::with_capacity(alloc, HELD, stream) {
-            Ok(stream) => Ok(Line {
+            Ok(stream) => Ok(Connection {
                 stream,
                 waits: true,
                 has_read: false,
@@ -247,11 +247,11 @@ fn at_least_one(wrote: io::Result<usize>, bytes: &[u8]) -> io::Result<usize>
 
 impl<R: Net + Clock> Wire<'_, R> {
     // Returns the connection, made at the first call.
-    fn line(&mut self) -> io::Result<&mut Line> {
-        match &mut self.line {
-            Some(line) => Ok(line),
+    fn connection(&mut self) -> io::Result<&mut Connection> {
+        match &mut self.connection {
+            Some(connection) => Ok(connection),
             none => match connected(self.rt, self.alloc, self.path) {
-                Ok(line) => Ok(none.insert(line)),
+                Ok(connection) => Ok(none.insert(connection)),
                 Err(error) => Err(error),
             },
         }
@@ -264,8 +264,8 @@ impl<R: Net + Clock> Wire<'_, R> {
         ensures waits { IfOk result (λ got. wait ≡ true → IsSome got) }
     {
         let clock = self.rt;
-        match self.line() {
-            Ok(line) => line.read(clock, buffer, wait),
+        match self.connection() {
+            Ok(connection) => connection.read(clock, buffer, wait),
             Err(error) => Err(error),
         }
     }
@@ -275,8 +275,8 @@ impl<R: Net + Clock> Wire<'_, R> {
         ensures some { IfOk result (λ n. 0 < length bytes.now → 0 < n) }
         ensures within { IfOk result (λ n. n ≤ length bytes.now) }
     {
-        match self.line() {
-            Ok(line) => at_least_one(line.write(bytes), bytes),
+        match self.connection() {
+            Ok(connection) => at_least_one(connection.write(bytes), bytes),
             Err(error) => Err(error),
         }
     }

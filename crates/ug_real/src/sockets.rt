@@ -53,7 +53,7 @@ impl<R: Files<File = File>> Drop for OwnFolder<'_, R> {
 
 /// A socket to which a child connects, and the owner of its file.
 #[derive(Drop)]
-pub struct Door<F: Drop> {
+pub struct Listener<F: Drop> {
     /// The socket.
     pub listener: UnixListener,
     /// Removes the file of the socket when it is dropped.
@@ -290,14 +290,14 @@ impl<'a, R: Files<File = File>> OwnFolder<'a, R> {
     }
 
     // Binds the socket of a rank. If that fails, removes its file.
-    fn bind(&self, alloc: Global, rank: u32) -> io::Result<Door<SocketFile<'a, R>>>
+    fn bind(&self, alloc: Global, rank: u32) -> io::Result<Listener<SocketFile<'a, R>>>
     where
         R: Net,
     {
         let path = path_of(alloc, self.path.as_str(), rank)?;
         let file = SocketFile { rt: self.rt, path };
         match self.listen(file.path()) {
-            Ok(listener) => Ok(Door { listener, file }),
+            Ok(listener) => Ok(Listener { listener, file }),
             Err(error) => {
                 drop(file);
                 Err(error)
@@ -319,7 +319,7 @@ impl<'a, R: Files<File = File> + Net> Sockets<'a, R> {
 
     /// Binds the socket of a rank, to which only this user can connect. Removes the file at its
     /// path first, if there is one.
-    pub fn bind(&mut self, rank: u32) -> io::Result<Door<SocketFile<'a, R>>> {
+    pub fn bind(&mut self, rank: u32) -> io::Result<Listener<SocketFile<'a, R>>> {
         match &self.own {
             Some(own) => own.bind(self.alloc, rank),
             None => match make_own(self.rt, self.alloc, self.place) {

@@ -14,7 +14,7 @@ use std::fs;
 use std::fs::{File, Files};
 use std::os::unix::fs::MetadataExt;
 use ug_io::Crew;
-use ug_real::{Children, ProcessCrew, SocketFolder};
+use ug_real::{ChildCommand, ProcessCrew, SocketFolder};
 
 const MANY: usize = 7 * TIMES;
 
@@ -129,7 +129,7 @@ where
 // of it. The lines have why its ranks are lost.
 fn goes_well(rt: &HostRuntime, lines: &mut Vec<String>, scene: Scene, sockets: &str) -> bool {
     let alloc = rt.alloc();
-    let children = Children {
+    let children = ChildCommand {
         program: "./echo",
         sockets: SocketFolder::Given(sockets),
     };

@@ -15,7 +15,7 @@ use std::os::unix::net::UnixListener;
 use std::process::{Processes, SystemProcess};
 use std::time::Clock;
 use ug_io::Crew;
-use ug_real::{Children, ProcessCrew, SocketFolder};
+use ug_real::{ChildCommand, ProcessCrew, SocketFolder};
 
 // Leaves an old socket where the first rank's is to be. Another test may have left the folder.
 fn leave_socket<R: Files + Net>(rt: &R) -> bool {
@@ -54,7 +54,7 @@ fn loses_two<C: Crew>(crew: &mut C) -> bool
 // Whether a crew of four ranks loses two, and nothing is left by then. The lines have why.
 fn loses_two_of_four(rt: &HostRuntime, lines: &mut Vec<String>) -> bool {
     let alloc = rt.alloc();
-    let children = Children {
+    let children = ChildCommand {
         program: "./child",
         sockets: SocketFolder::Given("sockets"),
     };
@@ -123,7 +123,7 @@ fn is_not_started<C: Crew>(crew: &mut C) -> bool
 }
 
 // Whether no child is started with these, and the lines have why.
-fn starts_none<R>(rt: &R, children: Children<'_>, lines: &mut Vec<String>) -> bool
+fn starts_none<R>(rt: &R, children: ChildCommand<'_>, lines: &mut Vec<String>) -> bool
 where
     R: Files<File = File> + Net + Processes<Started = SystemProcess> + Clock + AllocGlobal,
 {
@@ -143,7 +143,7 @@ fn leaves_nothing<R>(rt: &R, program: &str, sockets: &str, why: &str) -> bool
 where
     R: Files<File = File> + Net + Processes<Started = SystemProcess> + Clock + AllocGlobal,
 {
-    let children = Children {
+    let children = ChildCommand {
         program,
         sockets: SocketFolder::Given(sockets),
     };

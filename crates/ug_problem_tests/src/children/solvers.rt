@@ -12,10 +12,10 @@ use std::process::Abort;
 use std::sync::Wait;
 use std::time::Clock;
 use ug_io::{Came, Crew};
-use ug_real::{Children, ProcessCrew, SocketFolder, SocketLink};
+use ug_real::{ChildCommand, ProcessCrew, SocketFolder, SocketLink};
 use ug_serve::{Service, serve};
 
-const SOLVERS: Children<'static> = Children {
+const SOLVERS: ChildCommand<'static> = ChildCommand {
     program: "./solver",
     sockets: SocketFolder::Given("sockets"),
 };

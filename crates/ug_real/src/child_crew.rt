@@ -1,11 +1,11 @@
 ghost use Rattle.std.specs.Prelude.{◌≤◌, length, IfOk};
 ghost use Rattle.slab.specs.Slab.{HasRoomFor};
 
+use crate::child::Child;
+use crate::child_process::ChildProcess;
+use crate::children::{Children, Heard};
 use crate::departure::Watcher;
-use crate::herd::{Heard, Herd};
-use crate::peer::Peer;
-use crate::sockets::{Door, SocketFile, SocketFolder, Sockets};
-use crate::ward::Ward;
+use crate::sockets::{Listener, SocketFile, SocketFolder, Sockets};
 use std::alloc::Global;
 use std::fs::File;
 use std::io;
@@ -16,7 +16,7 @@ use std::time::Clock;
 
 /// How the children of a crew are started.
 #[derive(Clone, Copy)]
-pub struct Children<'a> {
+pub struct ChildCommand<'a> {
     /// The path of the program that each child runs.
     pub program: &'a str,
     /// The place of the folder with the sockets to which the children connect.
@@ -25,10 +25,10 @@ pub struct Children<'a> {
 
 /// Children at the other ends of sockets, behind one poll.
 #[derive(Drop)]
-pub struct Pack<'a, R: Files<File = File>, W: Drop> {
+pub struct ChildCrew<'a, R: Files<File = File>, W: Drop> {
     /// Declared before `starter`, so that the sockets are removed before their folder.
     // Before the starter: its sockets go before their folder.
-    pub herd: Herd<SocketFile<'a, R>>,
+    pub children: Children<SocketFile<'a, R>>,
     starter: Starter<'a, R>,
     /// Receives the losses of ranks.
     pub watcher: W,
@@ -44,19 +44,20 @@ struct Starter<'a, R: Files<File = File>> {
 }
 
 impl<'a, R: Files<File = File> + Processes<Started = SystemProcess>> Starter<'a, R> {
-    // Starts the child of this rank, which connects to this door. The herd has room for it.
+    // Starts the child of this rank, which connects to this listener. The set of children has room
+    // for it.
     fn start_at(
         &self,
         rank: u32,
-        door: Door<SocketFile<'a, R>>,
-        herd: &mut Herd<SocketFile<'a, R>>,
+        listener: Listener<SocketFile<'a, R>>,
+        children: &mut Children<SocketFile<'a, R>>,
     ) -> io::Result<()>
-        requires { HasRoomFor herd.old.peers 1 }
+        requires { HasRoomFor children.old.child_slab 1 }
     {
-        match Ward::start(self.rt, self.alloc, self.program, door.file.path()) {
-            Ok(child) => herd.admit(Peer::new(self.alloc, rank, door, child)),
+        match ChildProcess::start(self.rt, self.alloc, self.program, listener.file.path()) {
+            Ok(child) => children.admit(Child::new(self.alloc, rank, listener, child)),
             Err(error) => {
-                drop(door);
+                drop(listener);
                 Err(error)
             }
         }
@@ -67,43 +68,48 @@ impl<'a, R> Starter<'a, R>
 where
     R: Files<File = File> + Net + Processes<Started = SystemProcess>,
 {
-    // Binds a socket and starts the child of this rank. The herd has room for it.
-    fn start(&mut self, rank: u32, herd: &mut Herd<SocketFile<'a, R>>) -> io::Result<()>
-        requires { HasRoomFor herd.old.peers 1 }
+    // Binds a socket and starts the child of this rank. The set of children has room for it.
+    fn start(&mut self, rank: u32, children: &mut Children<SocketFile<'a, R>>) -> io::Result<()>
+        requires { HasRoomFor children.old.child_slab 1 }
     {
         match self.sockets.bind(rank) {
-            Ok(door) => self.start_at(rank, door, herd),
+            Ok(listener) => self.start_at(rank, listener, children),
             Err(error) => Err(error),
         }
     }
 }
 
-impl<'a, R, W> Pack<'a, R, W>
+impl<'a, R, W> ChildCrew<'a, R, W>
 where
     R: Files<File = File> + Net + Processes<Started = SystemProcess> + Clock,
     W: Watcher + Drop,
 {
     /// Returns a crew without children. The folder of the sockets is made at the first launch.
-    pub fn new(rt: &'a R, alloc: Global, children: Children<'a>, watcher: W) -> Pack<'a, R, W> {
-        Pack {
+    pub fn new(
+        rt: &'a R,
+        alloc: Global,
+        command: ChildCommand<'a>,
+        watcher: W,
+    ) -> ChildCrew<'a, R, W> {
+        ChildCrew {
             starter: Starter {
                 alloc,
-                program: children.program,
+                program: command.program,
                 rt,
-                sockets: Sockets::new(rt, alloc, children.sockets),
+                sockets: Sockets::new(rt, alloc, command.sockets),
             },
-            herd: Herd::new(alloc),
+            children: Children::new(alloc),
             watcher,
         }
     }
 
     /// Starts the child of this rank.
     pub fn launch(&mut self, rank: u32) -> io::Result<()> {
-        let opened = self.herd.open(self.starter.rt, self.starter.alloc);
+        let opened = self.children.open(self.starter.rt, self.starter.alloc);
         if opened.is_err() {
             return opened;
         }
-        self.starter.start(rank, &mut self.herd)
+        self.starter.start(rank, &mut self.children)
     }
 
     /// Waits until bytes come from a rank or one is lost. Removes a lost one and reports it to the
@@ -112,9 +118,9 @@ where
         ensures { IfOk result (λ heard. heard.count ≤ length buffer.new) }
     {
         let Starter { rt, alloc, .. } = &self.starter;
-        let turned = self.herd.turn(*rt, *alloc, &mut self.watcher, buffer);
+        let turned = self.children.turn(*rt, *alloc, &mut self.watcher, buffer);
         if let Ok(Heard { key, count: 0, .. }) = turned {
-            self.herd.part(key, &mut self.watcher);
+            self.children.part(key, &mut self.watcher);
         }
         turned
     }
@@ -122,7 +128,7 @@ where
     /// Writes the queued bytes, waits until each child has ended, and removes the folder of the
     /// sockets. A child that has not connected is killed, and so is one that runs too long.
     pub fn finish(&mut self) {
-        self.herd.finish(self.starter.rt);
+        self.children.finish(self.starter.rt);
         self.starter.sockets.close();
     }
 }

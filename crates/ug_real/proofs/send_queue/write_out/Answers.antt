@@ -1,7 +1,7 @@
 use Rattle.std.proofs.Common.{arith}
 use Rattle.std.proofs.lemmas.Grind.{common_steps}
 use Rattle.ug_real.proofs.Writing.{written_more}
-use Rattle.ug_real.proofs.outbox.write_out.Goals as goal
+use Rattle.ug_real.proofs.send_queue.write_out.Goals as goal
 
 pub loop-preserved : goal.loop-preserved
 loop-preserved g c =

@@ -1,8 +1,8 @@
 ghost use Rattle.std.specs.Prelude.{◌≤◌, length, IfOk, IfSome, OnOk};
 ghost use Rattle.slab.specs.Slab.{HasRoomFor};
 
+use crate::child::{Child, Sought};
 use crate::departure::Watcher;
-use crate::peer::{Peer, Sought};
 use crate::shared_bytes::SharedFrame;
 use mio::{Events, Poll, Registry, Token};
 use slab::Slab;
@@ -16,23 +16,23 @@ use std::thread::sleep;
 use std::time::{Clock, Duration, Instant};
 
 /// The largest number of events that one wait returns.
-const EVENTS: usize = 256;
+const EVENTS_OF_A_WAIT: usize = 256;
 
 /// The number of milliseconds between two tests of a child that should end soon.
-const SOON: u64 = 10;
+const EXIT_CHECK_MILLISECONDS: u64 = 10;
 
 /// The number of microseconds for which a turn waits for more after something came. One wakeup for
 /// each report would cost more than most reports do.
-const GATHER: u64 = 100;
+const GATHER_MICROSECONDS: u64 = 100;
 
 /// The number of milliseconds for which `finish` waits for the next child to end.
-const PATIENCE: u64 = 10_000;
+const EXIT_MILLISECONDS: u64 = 10_000;
 
 /// The number of seconds without a byte after which a child is tested for being stopped.
-const SILENCE: u64 = 60;
+const SILENCE_SECONDS: u64 = 60;
 
 /// The least number of milliseconds between two searches for silent children, and the longest wait.
-const LOOKS: u64 = 10_000;
+const SILENCE_CHECK_MILLISECONDS: u64 = 10_000;
 
 /// `count` bytes came from a rank, or, if it is 0, the rank is lost. The key is that of the child.
 #[derive(Clone, Copy)]
@@ -47,7 +47,7 @@ pub struct Heard {
 
 /// Children, and the poll that reports their events.
 #[derive(Drop)]
-pub struct Herd<F: Drop> {
+pub struct Children<F: Drop> {
     // The first key that is not served yet in this round.
     next: usize,
     // The time of the last search for silent children.
@@ -55,7 +55,7 @@ pub struct Herd<F: Drop> {
     watch: Option<Watch>,
     // What children that have not connected are to be sent.
     frame: SharedFrame,
-    peers: Slab<Peer<F>>,
+    child_slab: Slab<Child<F>>,
 }
 
 // The poll and its buffer for events.
@@ -79,7 +79,7 @@ fn open_watch(place: &mut Option<Watch>, net: &impl Net, alloc: Global) -> io::R
         Ok(poll) => poll,
         Err(error) => return Err(error),
     };
-    match Events::with_capacity(alloc, EVENTS) {
+    match Events::with_capacity(alloc, EVENTS_OF_A_WAIT) {
         Ok(events) => {
             drop(place.replace(Watch { poll, events }));
             Ok(())
@@ -92,9 +92,9 @@ fn open_watch(place: &mut Option<Watch>, net: &impl Net, alloc: Global) -> io::R
 }
 
 // Returns the lowest key of a child that satisfies the condition, if there is one.
-fn key_of<F: Drop>(peers: &Slab<Peer<F>>, sought: Sought) -> Option<usize> {
-    for (key, peer) in peers.iter() {
-        if peer.is(sought) {
+fn key_of<F: Drop>(child_slab: &Slab<Child<F>>, sought: Sought) -> Option<usize> {
+    for (key, child) in child_slab.iter() {
+        if child.is(sought) {
             return Some(key);
         }
     }
@@ -102,22 +102,26 @@ fn key_of<F: Drop>(peers: &Slab<Peer<F>>, sought: Sought) -> Option<usize> {
 }
 
 // Passes each event to its child.
-fn stir_all<F: Drop>(peers: &mut Slab<Peer<F>>, registry: &Registry, events: &Events) {
+fn on_events<F: Drop>(child_slab: &mut Slab<Child<F>>, registry: &Registry, events: &Events) {
     for event in events {
         let Token(key) = event.token();
-        if let Some(peer) = peers.get_mut(key) {
-            peer.stir(registry, Token(key), event.is_error());
+        if let Some(child) = child_slab.get_mut(key) {
+            child.on_event(registry, Token(key), event.is_error());
         }
     }
 }
 
 // Tests the children that should end soon.
-fn hurry_all<F: Drop>(peers: &mut Slab<Peer<F>>, registry: &Registry, now: Option<Instant>) {
-    for key in 0..peers.capacity() {
-        if let Some(peer) = peers.get_mut(key) {
-            if peer.is(Sought::Leaving) {
-                peer.stir(registry, Token(key), true);
-                peer.hurry(now);
+fn check_deadlines<F: Drop>(
+    child_slab: &mut Slab<Child<F>>,
+    registry: &Registry,
+    now: Option<Instant>,
+) {
+    for key in 0..child_slab.capacity() {
+        if let Some(child) = child_slab.get_mut(key) {
+            if child.is(Sought::Leaving) {
+                child.on_event(registry, Token(key), true);
+                child.check_deadline(now);
             }
         }
     }
@@ -125,15 +129,15 @@ fn hurry_all<F: Drop>(peers: &mut Slab<Peer<F>>, registry: &Registry, now: Optio
 
 // Sends the bytes to the child of this rank. Fails if there is none.
 fn send_to<F: Drop>(
-    peers: &mut Slab<Peer<F>>,
+    child_slab: &mut Slab<Child<F>>,
     registry: &Registry,
     frame: &mut SharedFrame,
     rank: u32,
     bytes: &[u8],
 ) -> io::Result<()> {
-    if let Some(key) = key_of(peers, Sought::Rank(rank)) {
-        if let Some(peer) = peers.get_mut(key) {
-            return peer.send(registry, Token(key), frame, bytes);
+    if let Some(key) = key_of(child_slab, Sought::Rank(rank)) {
+        if let Some(child) = child_slab.get_mut(key) {
+            return child.send(registry, Token(key), frame, bytes);
         }
     }
     Err(missing())
@@ -142,7 +146,7 @@ fn send_to<F: Drop>(
 // Receives from the first of the children at these keys that has something. Drops children that
 // were shut and have ended.
 fn hear_among<F: Drop>(
-    peers: &mut Slab<Peer<F>>,
+    child_slab: &mut Slab<Child<F>>,
     first: usize,
     end: usize,
     buffer: &mut [u8],
@@ -150,7 +154,7 @@ fn hear_among<F: Drop>(
     ensures { IfSome result (λ heard. heard.count ≤ length buffer.new) }
 {
     for key in first..end {
-        if let Some(heard) = hear_at(peers, key, buffer) {
+        if let Some(heard) = hear_at(child_slab, key, buffer) {
             return Some(heard);
         }
     }
@@ -158,13 +162,13 @@ fn hear_among<F: Drop>(
 }
 
 // Receives from a child, if it has something.
-fn hear_of<F: Drop>(peer: &mut Peer<F>, key: usize, buffer: &mut [u8]) -> Option<Heard>
+fn hear_of<F: Drop>(child: &mut Child<F>, key: usize, buffer: &mut [u8]) -> Option<Heard>
     ensures { IfSome result (λ heard. heard.count ≤ length buffer.new) }
 {
-    match peer.hear(buffer) {
+    match child.hear(buffer) {
         Some(count) => Some(Heard {
             key,
-            rank: peer.rank(),
+            rank: child.rank(),
             count,
         }),
         None => None,
@@ -181,31 +185,32 @@ fn is_over(heard: Option<Heard>, is_shut: bool) -> bool {
 
 // Receives from the child at this key, if there is one and it has something. Drops the child if it
 // was shut and has ended.
-fn hear_at<F: Drop>(peers: &mut Slab<Peer<F>>, key: usize, buffer: &mut [u8]) -> Option<Heard>
+fn hear_at<F: Drop>(child_slab: &mut Slab<Child<F>>, key: usize, buffer: &mut [u8]) -> Option<Heard>
     ensures { IfSome result (λ heard. heard.count ≤ length buffer.new) }
 {
-    let Some(peer) = peers.get_mut(key) else {
+    let Some(child) = child_slab.get_mut(key) else {
         return None;
     };
-    let heard = hear_of(peer, key, buffer);
-    if is_over(heard, peer.is_shut()) {
-        drop(peers.try_remove(key));
+    let heard = hear_of(child, key, buffer);
+    if is_over(heard, child.is_shut()) {
+        drop(child_slab.try_remove(key));
         return None;
     }
     heard
 }
 
-// Have `PATIENCE` milliseconds passed since this time? Without a clock they have.
+// Have `EXIT_MILLISECONDS` milliseconds passed since this time? Without a clock they have.
 fn is_past<R: Clock>(rt: &R, since: Option<Instant>) -> bool {
     match (since, Instant::now(rt)) {
-        (Some(since), Ok(now)) => now.duration_since(since) >= Duration::from_millis(PATIENCE),
+        (Some(since), Ok(now)) => now.duration_since(since)
+            >= Duration::from_millis(EXIT_MILLISECONDS),
         _ => true,
     }
 }
 
 // Reports the children that have been silent for long and are stopped.
 fn report_stopped<F: Drop, R, W>(
-    peers: &mut Slab<Peer<F>>,
+    child_slab: &mut Slab<Child<F>>,
     rt: &R,
     alloc: Global,
     now: Instant,
@@ -215,70 +220,70 @@ where
     R: Files<File = File>,
     W: Watcher,
 {
-    for key in 0..peers.capacity() {
-        if let Some(peer) = peers.get_mut(key) {
-            if peer.is_silent(now, SILENCE) {
-                peer.report_stopped(rt, alloc, watcher, SILENCE);
+    for key in 0..child_slab.capacity() {
+        if let Some(child) = child_slab.get_mut(key) {
+            if child.is_silent(now, SILENCE_SECONDS) {
+                child.report_stopped(rt, alloc, watcher, SILENCE_SECONDS);
             }
         }
     }
 }
 
 // Drops the children that have not connected.
-fn dismiss_awaited<F: Drop>(peers: &mut Slab<Peer<F>>, registry: &Registry) {
-    for key in 0..peers.capacity() {
-        if let Some(peer) = peers.get_mut(key) {
-            peer.stir(registry, Token(key), false);
-            if peer.is_awaited() {
-                drop(peers.try_remove(key));
+fn dismiss_awaited<F: Drop>(child_slab: &mut Slab<Child<F>>, registry: &Registry) {
+    for key in 0..child_slab.capacity() {
+        if let Some(child) = child_slab.get_mut(key) {
+            child.on_event(registry, Token(key), false);
+            if child.is_awaited() {
+                drop(child_slab.try_remove(key));
             }
         }
     }
 }
 
-impl<F: Drop> Herd<F> {
+impl<F: Drop> Children<F> {
     /// Returns no children, without a poll.
-    pub fn new(alloc: Global) -> Herd<F> {
-        Herd {
+    pub fn new(alloc: Global) -> Children<F> {
+        Children {
             next: 0,
             looked: None,
             watch: None,
             frame: SharedFrame::new(alloc),
-            peers: Slab::new(alloc),
+            child_slab: Slab::new(alloc),
         }
     }
 
     /// Reserves a place for one more child, and makes the poll if there is none.
     pub fn open(&mut self, net: &impl Net, alloc: Global) -> io::Result<()>
-        ensures { OnOk result (HasRoomFor self.new.peers 1) }
+        ensures { OnOk result (HasRoomFor self.new.child_slab 1) }
     {
-        match self.peers.reserve(1) {
+        match self.child_slab.reserve(1) {
             Ok(()) => open_watch(&mut self.watch, net, alloc),
             Err(error) => Err(error.into()),
         }
     }
 
     // Registers the child with the poll.
-    fn register(&self, peer: &mut Peer<F>, key: usize) -> io::Result<()> {
+    fn register(&self, child: &mut Child<F>, key: usize) -> io::Result<()> {
         match &self.watch {
-            Some(watch) => peer.register(watch.poll.registry(), Token(key)),
+            Some(watch) => child.register(watch.poll.registry(), Token(key)),
             None => Err(missing()),
         }
     }
 
     /// Adds a child, for which a place is reserved. If it cannot be registered, the child is
     /// dropped and so killed.
-    pub fn admit(&mut self, mut peer: Peer<F>) -> io::Result<()>
-        requires { HasRoomFor self.old.peers 1 }
+    pub fn admit(&mut self, mut child: Child<F>) -> io::Result<()>
+        requires { HasRoomFor self.old.child_slab 1 }
     {
-        let key = self.peers.vacant_key();
-        match self.register(&mut peer, key) {
+        let key = self.child_slab.vacant_key();
+        match self.register(&mut child, key) {
             Ok(()) => {
-                self.peers.insert_reserved(peer);
+                self.child_slab.insert_reserved(child);
                 Ok(())
             }
             Err(error) => {
-                drop(peer);
+                drop(child);
                 Err(error)
             }
         }
@@ -290,7 +295,7 @@ impl<F: Drop> Herd<F> {
         match &self.watch {
             Some(watch) => {
                 let registry = watch.poll.registry();
-                send_to(&mut self.peers, registry, &mut self.frame, rank, bytes)
+                send_to(&mut self.child_slab, registry, &mut self.frame, rank, bytes)
             }
             None => Err(missing()),
         }
@@ -298,9 +303,9 @@ impl<F: Drop> Herd<F> {
 
     /// Closes the connection to the rank and kills its child.
     pub fn shut(&mut self, rank: u32) {
-        if let Some(key) = key_of(&self.peers, Sought::Rank(rank)) {
-            if let Some(peer) = self.peers.get_mut(key) {
-                peer.shut();
+        if let Some(key) = key_of(&self.child_slab, Sought::Rank(rank)) {
+            if let Some(child) = self.child_slab.get_mut(key) {
+                child.shut();
             }
         }
     }
@@ -309,8 +314,8 @@ impl<F: Drop> Herd<F> {
     fn hear(&mut self, buffer: &mut [u8]) -> Option<Heard>
         ensures { IfSome result (λ heard. heard.count ≤ length buffer.new) }
     {
-        let end = self.peers.capacity();
-        let heard = hear_among(&mut self.peers, self.next, end, buffer);
+        let end = self.child_slab.capacity();
+        let heard = hear_among(&mut self.child_slab, self.next, end, buffer);
         if let Some(Heard { key, .. }) = heard {
             self.next = key.saturating_add(1);
         }
@@ -322,12 +327,12 @@ impl<F: Drop> Herd<F> {
     // most `most` milliseconds, and after an event a little longer.
     fn look<R: Clock>(&mut self, clock: &R, most: Option<u64>) -> io::Result<()> {
         self.next = 0;
-        if key_of(&self.peers, Sought::Stirred).is_some() {
+        if key_of(&self.child_slab, Sought::Stirred).is_some() {
             return self.wait(clock, Some(0));
         }
         let waited = self.wait(clock, most);
         if waited.is_ok() {
-            sleep(clock, Duration::from_micros(GATHER));
+            sleep(clock, Duration::from_micros(GATHER_MICROSECONDS));
         }
         waited
     }
@@ -335,17 +340,20 @@ impl<F: Drop> Herd<F> {
     // Waits for events for at most `most` milliseconds, less if a child should end soon, and passes
     // them on.
     fn wait<R: Clock>(&mut self, clock: &R, most: Option<u64>) -> io::Result<()> {
-        let is_any_leaving = key_of(&self.peers, Sought::Leaving).is_some();
+        let is_any_leaving = key_of(&self.child_slab, Sought::Leaving).is_some();
         let most = if is_any_leaving {
-            Some(most.unwrap_or(SOON).min(SOON))
+            Some(
+                most.unwrap_or(EXIT_CHECK_MILLISECONDS)
+                    .min(EXIT_CHECK_MILLISECONDS),
+            )
         } else {
             most
         };
         let waited = self.wait_for_events(most);
         if waited.is_ok() {
-            self.heed(clock, is_any_leaving);
+            self.handle_events(clock, is_any_leaving);
         }
-        if key_of(&self.peers, Sought::Awaited).is_none() {
+        if key_of(&self.child_slab, Sought::Awaited).is_none() {
             self.frame.clear();
         }
         waited
@@ -362,19 +370,19 @@ impl<F: Drop> Herd<F> {
     }
 
     // Passes the events of the poll to the children, and tests those that should end soon.
-    fn heed<R: Clock>(&mut self, clock: &R, is_any_leaving: bool) {
+    fn handle_events<R: Clock>(&mut self, clock: &R, is_any_leaving: bool) {
         if let Some(watch) = &self.watch {
-            stir_all(&mut self.peers, watch.poll.registry(), &watch.events);
+            on_events(&mut self.child_slab, watch.poll.registry(), &watch.events);
             if is_any_leaving {
                 let now = Instant::now(clock).ok();
-                hurry_all(&mut self.peers, watch.poll.registry(), now);
+                check_deadlines(&mut self.child_slab, watch.poll.registry(), now);
             }
         }
     }
 
     // Reports silent children that are stopped, unless the last search was a short while ago.
     // Nothing else depends on it.
-    fn look_for_silent<R, W>(&mut self, rt: &R, alloc: Global, watcher: &mut W)
+    fn find_silent<R, W>(&mut self, rt: &R, alloc: Global, watcher: &mut W)
     where
         R: Files<File = File> + Clock,
         W: Watcher,
@@ -383,12 +391,12 @@ impl<F: Drop> Herd<F> {
             return;
         };
         if let Some(looked) = self.looked {
-            if now.duration_since(looked) < Duration::from_millis(LOOKS) {
+            if now.duration_since(looked) < Duration::from_millis(SILENCE_CHECK_MILLISECONDS) {
                 return;
             }
         }
         self.looked = Some(now);
-        report_stopped(&mut self.peers, rt, alloc, now, watcher);
+        report_stopped(&mut self.child_slab, rt, alloc, now, watcher);
     }
 
     /// Waits until bytes come from a child or one is lost. Reports to the watcher a child that has
@@ -409,21 +417,21 @@ impl<F: Drop> Herd<F> {
             if let Some(heard) = self.hear(buffer) {
                 return Ok(heard);
             }
-            if let Err(error) = self.look(rt, Some(LOOKS)) {
+            if let Err(error) = self.look(rt, Some(SILENCE_CHECK_MILLISECONDS)) {
                 return Err(error);
             }
-            self.look_for_silent(rt, alloc, watcher);
+            self.find_silent(rt, alloc, watcher);
         }
         Err(io::Error::from(ErrorKind::TimedOut))
     }
 
     /// Drops the child at this key, and reports to the watcher why it is lost.
     pub fn part<W: Watcher>(&mut self, key: usize, watcher: &mut W) {
-        if let Some(mut peer) = self.peers.try_remove(key) {
-            let why = peer.departure();
-            watcher.gone(peer.rank(), &why);
+        if let Some(mut child) = self.child_slab.try_remove(key) {
+            let why = child.departure();
+            watcher.gone(child.rank(), &why);
             drop(why);
-            drop(peer);
+            drop(child);
         }
     }
 
@@ -433,29 +441,29 @@ impl<F: Drop> Herd<F> {
         let mut buffer = [0u8; 4096];
         for _ in 0..u64::MAX {
             match self.hear(&mut buffer) {
-                Some(Heard { key, count: 0, .. }) => drop(self.peers.try_remove(key)),
+                Some(Heard { key, count: 0, .. }) => drop(self.child_slab.try_remove(key)),
                 Some(_) => {}
                 None => return,
             }
         }
     }
 
-    // Waits until every child has ended. Gives up if none ends for `PATIENCE` milliseconds, or if a
-    // wait fails.
-    fn see_off<R: Clock>(&mut self, clock: &R) {
+    // Waits until every child has ended. Gives up if none ends for `EXIT_MILLISECONDS`
+    // milliseconds, or if a wait fails.
+    fn wait_for_exits<R: Clock>(&mut self, clock: &R) {
         let mut since = Instant::now(clock).ok();
         for _ in 0..u64::MAX {
-            let count = self.peers.len();
+            let count = self.child_slab.len();
             self.drain();
-            if self.peers.is_empty() {
+            if self.child_slab.is_empty() {
                 break;
             }
-            if self.peers.len() < count {
+            if self.child_slab.len() < count {
                 since = Instant::now(clock).ok();
             } else if is_past(clock, since) {
                 break;
             }
-            if self.look(clock, Some(PATIENCE)).is_err() {
+            if self.look(clock, Some(EXIT_MILLISECONDS)).is_err() {
                 break;
             }
         }
@@ -465,9 +473,9 @@ impl<F: Drop> Herd<F> {
     /// killed, and so are all that are left when no further one ends for 10 seconds.
     pub fn finish<R: Clock>(&mut self, clock: &R) {
         if let Some(watch) = &self.watch {
-            dismiss_awaited(&mut self.peers, watch.poll.registry());
-            self.see_off(clock);
+            dismiss_awaited(&mut self.child_slab, watch.poll.registry());
+            self.wait_for_exits(clock);
         }
-        self.peers.clear();
+        self.child_slab.clear();
     }
 }

@@ -2,7 +2,7 @@ use Rattle.std.proofs.Common.{take, subst}
 use Rattle.std.specs.Io.KnownBytes.{Appends}
 use Rattle.ug_real.specs.Outboxes.{own_waiting, rest_of}
 use Rattle.ug_real.proofs.Writing.{ahead_whole}
-use Rattle.ug_real.proofs.outbox.Outbox.flush_ahead.Goals as goal
+use Rattle.ug_real.proofs.send_queue.SendQueue.flush_ahead.Goals as goal
 
 pub returns-in-Ok-clause-ok : goal.returns-in-Ok-clause-ok
 returns-in-Ok-clause-ok g c =

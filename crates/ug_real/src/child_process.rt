@@ -11,7 +11,7 @@ use std::process::{Child, Command, ExitStatus, Processes, Stdio, SystemProcess};
 use std::rt::Files;
 
 /// A child process. Dropping it kills the process if it has not ended, and waits for its end.
-pub struct Ward {
+pub struct ChildProcess {
     child: Child,
     state: State,
 }
@@ -47,12 +47,12 @@ fn state_in<R: Files<File = File>>(rt: &R, path: &str) -> Option<u8> {
     };
     let count = again::read(&mut file, &mut buffer).unwrap_or(0);
     drop(file);
-    let line = buffer.get(..count).unwrap_or(&[]);
-    let at = line.iter().rposition(|byte| *byte == b')')?;
-    line.get(at.saturating_add(2)).copied()
+    let connection = buffer.get(..count).unwrap_or(&[]);
+    let at = connection.iter().rposition(|byte| *byte == b')')?;
+    connection.get(at.saturating_add(2)).copied()
 }
 
-impl Ward {
+impl ChildProcess {
     /// Starts the program as a worker that connects to this socket. Its standard output is
     /// discarded. Its standard input is a pipe on which nothing is sent: the pipe closes when the
     /// child ends.
@@ -61,12 +61,12 @@ impl Ward {
         alloc: Global,
         program: &str,
         socket: &str,
-    ) -> io::Result<Ward> {
+    ) -> io::Result<ChildProcess> {
         let mut command = Command::new(alloc, program)?;
         let spawned = spawn(rt, &mut command, socket);
         drop(command);
         match spawned {
-            Ok(child) => Ok(Ward {
+            Ok(child) => Ok(ChildProcess {
                 child,
                 state: State::Runs,
             }),
@@ -132,9 +132,9 @@ impl Ward {
     }
 }
 
-impl Drop for Ward {
+impl Drop for ChildProcess {
     fn drop(self) {
-        let Ward {
+        let ChildProcess {
             mut child,
             state: _,
         } = self;

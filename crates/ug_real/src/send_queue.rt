@@ -13,7 +13,7 @@ const KEPT: usize = 1 << 16;
 
 /// Bytes that are to go to a connection, and did not go yet.
 #[derive(Drop)]
-pub struct Outbox {
+pub struct SendQueue {
     alloc: Global,
     // Bytes that go before the others, in memory that other outboxes share.
     ahead: Option<SharedBytes>,
@@ -59,14 +59,14 @@ pub fn write_out<W: Write>(to: &mut W, bytes: &[u8]) -> io::Result<usize>
     Ok(sent)
 }
 
-impl Outbox {
+impl SendQueue {
     ghost use Rattle.ug_real.specs.Outboxes.{HasWritten, IsUnsent, own_waiting, rest_of, waiting};
 
     /// Returns an empty outbox.
-    pub fn new(alloc: Global) -> Outbox
+    pub fn new(alloc: Global) -> SendQueue
         ensures { waiting result ≡ [] }
     {
-        Outbox {
+        SendQueue {
             alloc,
             ahead: None,
             gone: 0,

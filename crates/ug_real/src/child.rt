@@ -2,11 +2,11 @@ ghost use Rattle.std.specs.Prelude.{◌≤◌, length, IfSome};
 
 use crate::again;
 use crate::cause::failed_by;
+use crate::child_process::ChildProcess;
 use crate::departure::{Departure, Watcher};
-use crate::outbox::{Outbox, Unsent};
+use crate::send_queue::{SendQueue, Unsent};
 use crate::shared_bytes::SharedFrame;
-use crate::sockets::Door;
-use crate::ward::Ward;
+use crate::sockets::Listener;
 use mio::net::UnixStream;
 use mio::{Interest, Registry, Token};
 use std::alloc::{AllocError, Global};
@@ -18,11 +18,11 @@ use std::{io, mem};
 
 /// The number of milliseconds that a child has to end after it closed its connection or its
 /// standard input.
-const GRACE: u64 = 1000;
+const GRACE_MILLISECONDS: u64 = 1000;
 
 /// A child of a crew, and the connection to it. The file of its socket exists until it connects.
 #[derive(Drop)]
-pub struct Peer<F: Drop> {
+pub struct Child<F: Drop> {
     rank: u32,
     // It may have something to read, or be lost.
     is_stirred: bool,
@@ -42,18 +42,18 @@ pub struct Peer<F: Drop> {
     quiet: Option<Instant>,
     // It was reported as stopped.
     is_reported: bool,
-    outbox: Outbox,
-    // Declared before `line`: it is killed before the file of its socket is removed, which it may
-    // need.
-    child: Ward,
-    line: Line<F>,
+    send_queue: SendQueue,
+    // Declared before `connection`: it is killed before the file of its socket is removed, which it
+    // may need.
+    child: ChildProcess,
+    connection: Connection<F>,
 }
 
 // The connection to a child.
 #[derive(Drop)]
-enum Line<F: Drop> {
+enum Connection<F: Drop> {
     // It has not connected yet.
-    Awaited(Door<F>),
+    Awaited(Listener<F>),
     Open(UnixStream),
     Closed,
 }
@@ -71,14 +71,14 @@ pub enum Sought {
     Awaited,
 }
 
-impl<F: Drop> Peer<F> {
-    /// Returns a child that connects to this door.
-    pub fn new(alloc: Global, rank: u32, door: Door<F>, child: Ward) -> Peer<F> {
-        Peer {
+impl<F: Drop> Child<F> {
+    /// Returns a child that connects to this listener.
+    pub fn new(alloc: Global, rank: u32, listener: Listener<F>, child: ChildProcess) -> Child<F> {
+        Child {
             rank,
-            line: Line::Awaited(door),
+            connection: Connection::Awaited(listener),
             child,
-            outbox: Outbox::new(alloc),
+            send_queue: SendQueue::new(alloc),
             is_stirred: false,
             is_ending: false,
             is_shut: false,
@@ -103,17 +103,18 @@ impl<F: Drop> Peer<F> {
 
     /// Has it not connected yet?
     pub fn is_awaited(&self) -> bool {
-        match &self.line {
-            Line::Awaited(_) => true,
-            Line::Open(_) | Line::Closed => false,
+        match &self.connection {
+            Connection::Awaited(_) => true,
+            Connection::Open(_) | Connection::Closed => false,
         }
     }
 
     // Should it end soon, perhaps without an event?
     fn is_leaving(&self) -> bool {
-        match &self.line {
-            Line::Closed => !self.child.has_ended(),
-            Line::Awaited(_) | Line::Open(_) => self.is_ending && !self.child.has_ended(),
+        match &self.connection {
+            Connection::Closed => !self.child.has_ended(),
+            Connection::Awaited(_) | Connection::Open(_) => self.is_ending
+                && !self.child.has_ended(),
         }
     }
 
@@ -129,18 +130,18 @@ impl<F: Drop> Peer<F> {
 
     /// Registers its socket, until it connects, and its standard input under this token.
     pub fn register(&mut self, registry: &Registry, token: Token) -> io::Result<()> {
-        if let Line::Awaited(door) = &mut self.line {
-            registry.register(&mut door.listener, token, Interest::READABLE)?;
+        if let Connection::Awaited(listener) = &mut self.connection {
+            registry.register(&mut listener.listener, token, Interest::READABLE)?;
         }
         self.child.register(registry, token)
     }
 
     // Accepts its connection, if there is one.
     fn answer(&mut self, registry: &Registry, token: Token) {
-        let Line::Awaited(door) = &mut self.line else {
+        let Connection::Awaited(listener) = &mut self.connection else {
             return;
         };
-        match door.listener.accept() {
+        match listener.listener.accept() {
             Ok((stream, address)) => {
                 drop(address);
                 self.open(registry, token, stream);
@@ -159,7 +160,7 @@ impl<F: Drop> Peer<F> {
         let both = Interest::READABLE | Interest::WRITABLE;
         match registry.register(&mut stream, token, both) {
             Ok(()) => {
-                drop(mem::replace(&mut self.line, Line::Open(stream)));
+                drop(mem::replace(&mut self.connection, Connection::Open(stream)));
                 self.is_stirred = true;
                 self.flush();
             }
@@ -179,9 +180,9 @@ impl<F: Drop> Peer<F> {
 
     // Writes as many queued bytes as can be written now.
     fn flush(&mut self) {
-        let flushed = match &mut self.line {
-            Line::Open(stream) => self.outbox.flush(stream),
-            Line::Awaited(_) | Line::Closed => Ok(()),
+        let flushed = match &mut self.connection {
+            Connection::Open(stream) => self.send_queue.flush(stream),
+            Connection::Awaited(_) | Connection::Closed => Ok(()),
         };
         if let Err(error) = flushed {
             self.lose(error);
@@ -199,13 +200,13 @@ impl<F: Drop> Peer<F> {
 
     // Closes its connection and drops the queued bytes.
     fn close(&mut self) {
-        drop(mem::replace(&mut self.line, Line::Closed));
-        self.outbox.close();
+        drop(mem::replace(&mut self.connection, Connection::Closed));
+        self.send_queue.close();
     }
 
     /// Follows an event of the poll: accepts its connection, writes queued bytes, and tests whether
     /// it has ended if `is_ending` is set. Afterwards it may have something to read.
-    pub fn stir(&mut self, registry: &Registry, token: Token, is_ending: bool) {
+    pub fn on_event(&mut self, registry: &Registry, token: Token, is_ending: bool) {
         if is_ending {
             self.is_ending = true;
             self.child.look();
@@ -221,7 +222,8 @@ impl<F: Drop> Peer<F> {
     // Has its end been awaited long enough? Without a clock it has.
     fn has_waited(&self, now: Option<Instant>) -> bool {
         match (now, self.since) {
-            (Some(now), Some(since)) => now.duration_since(since) >= Duration::from_millis(GRACE),
+            (Some(now), Some(since)) => now.duration_since(since)
+                >= Duration::from_millis(GRACE_MILLISECONDS),
             (Some(_), None) => false,
             (None, _) => true,
         }
@@ -229,7 +231,7 @@ impl<F: Drop> Peer<F> {
 
     /// Continues to wait for its end at this time, or kills it if that took too long. A child that
     /// has only closed its standard input may stay.
-    pub fn hurry(&mut self, now: Option<Instant>) {
+    pub fn check_deadline(&mut self, now: Option<Instant>) {
         if self.child.has_ended() {
             return;
         }
@@ -237,13 +239,13 @@ impl<F: Drop> Peer<F> {
             self.since = self.since.or(now);
             return;
         }
-        match (&self.line, mem::take(&mut self.cut)) {
-            (Line::Open(_), Some(error)) => self.give_up(Departure::Cut(error)),
-            (Line::Open(_), None) => {
+        match (&self.connection, mem::take(&mut self.cut)) {
+            (Connection::Open(_), Some(error)) => self.give_up(Departure::Cut(error)),
+            (Connection::Open(_), None) => {
                 self.is_ending = false;
                 self.since = None;
             }
-            (Line::Awaited(_) | Line::Closed, cut) => {
+            (Connection::Awaited(_) | Connection::Closed, cut) => {
                 drop(cut);
                 self.give_up(Departure::HungUp);
             }
@@ -254,7 +256,7 @@ impl<F: Drop> Peer<F> {
     fn take(&mut self, buffer: &mut [u8]) -> Option<usize>
         ensures { IfSome result (λ n. n ≤ length buffer.new) }
     {
-        let Line::Open(stream) = &mut self.line else {
+        let Connection::Open(stream) = &mut self.connection else {
             return None;
         };
         let got = again::read(stream, buffer);
@@ -315,8 +317,8 @@ impl<F: Drop> Peer<F> {
         if let Some(count) = self.take(buffer) {
             return Some(count);
         }
-        match &self.line {
-            Line::Closed if self.child.has_ended() => Some(0),
+        match &self.connection {
+            Connection::Closed if self.child.has_ended() => Some(0),
             _ => {
                 self.is_stirred = false;
                 None
@@ -335,10 +337,10 @@ impl<F: Drop> Peer<F> {
         bytes: &[u8],
     ) -> io::Result<()> {
         self.answer(registry, token);
-        let sent = match &mut self.line {
-            Line::Open(stream) => self.outbox.send(stream, bytes),
-            Line::Awaited(_) => frame.queue(&mut self.outbox, bytes),
-            Line::Closed => Ok(()),
+        let sent = match &mut self.connection {
+            Connection::Open(stream) => self.send_queue.send(stream, bytes),
+            Connection::Awaited(_) => frame.queue(&mut self.send_queue, bytes),
+            Connection::Closed => Ok(()),
         };
         match sent {
             Ok(()) => Ok(()),

@@ -1,6 +1,6 @@
 use Rattle.std.proofs.Common.{◌≤◌, length, take}
 use Rattle.std.specs.Io.KnownBytes.{Appends}
-use Rattle.ug_real.proofs.outbox.write_out.Given as goal
+use Rattle.ug_real.proofs.send_queue.write_out.Given as goal
 
 -- the first `sent` bytes were written
 abbrev pub invariant-loop : goal.invariant-loop

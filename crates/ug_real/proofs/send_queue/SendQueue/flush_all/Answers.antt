@@ -1,5 +1,5 @@
 use Rattle.ug_real.proofs.Writing.{both_ok}
-use Rattle.ug_real.proofs.outbox.Outbox.flush_all.Goals as goal
+use Rattle.ug_real.proofs.send_queue.SendQueue.flush_all.Goals as goal
 
 pub returns-in-Ok-true : goal.returns-in-Ok-true
 returns-in-Ok-true g c =
