@@ -29,7 +29,7 @@ still_said (Some said) b same = same ∙ ap (λ (all : List Exchange). Some all)
 
 -- nothing is done any more but that
 abbrev closing : Phase → Phase
-closing phase = record { broken = phase.broken; pace = Closing }
+closing phase = record { link_failed = phase.link_failed; pace = Closing }
 
 -- one action more, by which the rank was sent
 closes : (from : CoordinatorState) (h next : CoordinatorSeen) (old new : KeptSeen) (rank : ℕ) (action : Action) (more : List Exchange)
@@ -157,7 +157,7 @@ ends_kept from h seen old new n still calm all k =
       shown = subst (λ told. IfSome told (λ t. t ≡ on.said)) (sym still) on.shown;
       its = refl;
       pacing = refl;
-      wants = refl;
+      out_of_memory = refl;
       faults = sym calm;
       closed = all_closed from h old new n all k;
       moves = k.kept.moves;

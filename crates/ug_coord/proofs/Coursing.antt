@@ -184,8 +184,8 @@ failed_on phase b old new rank h on =
       there = h.there;
       why = (refl, inr h.faults, streams);
       lives = lives;
-      broken = refl;
-      wants = ap (λ (h : CoordinatorSeen). h.wants) h.rest;
+      link_failed = refl;
+      out_of_memory = ap (λ (h : CoordinatorSeen). h.out_of_memory) h.rest;
       pace = refl;
       pacing = ap (λ (h : CoordinatorSeen). h.pacing) h.rest;
       book = ap (λ (h : CoordinatorSeen). h.book) h.rest;
@@ -196,9 +196,9 @@ failed_on phase b old new rank h on =
 pub broke_on : (phase : Phase) (b : CoordinatorState) (old new : CoordinatorSeen) → ¬ IsOver old.book → old.book.orders ≡ []
     → phase.pace ≡ Hearing → AreReadOut old.streams → Rose old.crew.faults new.crew.faults
     → new ≡ record old { crew = record old.crew { faults = new.crew.faults } } → IsOnAs phase b old
-    → IsOnAs (record { broken = true; pace = Closing }) b new
+    → IsOnAs (record { link_failed = true; pace = Closing }) b new
 broke_on phase b old new more told decided read faults rest on =
-    let after : Phase = record { broken = true; pace = Closing } in
+    let after : Phase = record { link_failed = true; pace = Closing } in
     on_still phase after b old new Broke (ap (λ (h : CoordinatorSeen). h.crew.said) rest)
     (λ said. record {
       hearing = hearing said phase old more told decided read;
@@ -213,19 +213,19 @@ broke_on phase b old new more told decided read faults rest on =
     }) on
 
 -- and so each rank is lost
-pub lost_on : (phase : Phase) (b : CoordinatorState) (old new : CoordinatorSeen) (rank : ℕ) → phase.broken ≡ true
+pub lost_on : (phase : Phase) (b : CoordinatorState) (old new : CoordinatorSeen) (rank : ℕ) → phase.link_failed ≡ true
     → rank < ranks_of old.book → new ≡ without rank old
     → ranks_of new.book ≡ ranks_of old.book → IsOnAs phase b old → IsOnAs phase b new
-lost_on phase b old new rank broken there rest ranks on =
+lost_on phase b old new rank link_failed there rest ranks on =
     let lives = ap (λ (h : CoordinatorSeen). h.crew.lives) rest in
     let streams = ap (λ (h : CoordinatorSeen). h.streams) rest in
     on_still phase phase b old new (Lost rank Failed) (ap (λ (h : CoordinatorSeen). h.crew.said) rest)
     (λ said. record {
       there = there;
-      why = (refl, inl (broken, ap (λ (h : CoordinatorSeen). h.crew.faults) rest), streams);
+      why = (refl, inl (link_failed, ap (λ (h : CoordinatorSeen). h.crew.faults) rest), streams);
       lives = lives;
-      broken = refl;
-      wants = ap (λ (h : CoordinatorSeen). h.wants) rest;
+      link_failed = refl;
+      out_of_memory = ap (λ (h : CoordinatorSeen). h.out_of_memory) rest;
       pace = refl;
       pacing = ap (λ (h : CoordinatorSeen). h.pacing) rest;
       book = ap (λ (h : CoordinatorSeen). h.book) rest;
@@ -349,9 +349,9 @@ set_up_on false phase b old new rank frame alive setup came on = failed_on phase
 pub decided_on : (phase : Phase) (b : CoordinatorState) (old new : CoordinatorSeen) → ¬ IsOver old.book
     → ¬ IsSaveDue old.pacing old.book → MayDecide phase.pace
     → IsDecided old.book new.book → ranks_of new.book ≡ ranks_of old.book → new ≡ record old { book = new.book }
-    → IsOnAs phase b old → IsOnAs (record { broken = phase.broken; pace = Hearing }) b new
+    → IsOnAs phase b old → IsOnAs (record { link_failed = phase.link_failed; pace = Hearing }) b new
 decided_on phase b old new more saved due is ranks rest on =
-    let after : Phase = record { broken = phase.broken; pace = Hearing } in
+    let after : Phase = record { link_failed = phase.link_failed; pace = Hearing } in
     on_still phase after b old new Decided (ap (λ (h : CoordinatorSeen). h.crew.said) rest)
     (λ said. record {
       deciding = record { more = more; due = due; saved = saved };
@@ -366,10 +366,10 @@ decided_on phase b old new more saved due is ranks rest on =
 -- a decision was cut short
 pub halted_on : (phase : Phase) (b : CoordinatorState) (old new : CoordinatorSeen) (steps : ℕ) → ¬ IsOver old.book
     → ¬ IsSaveDue old.pacing old.book → MayDecide phase.pace → Stands steps old.book new.book → ranks_of new.book ≡ ranks_of old.book
-    → new ≡ record old { wants = true; book = new.book } → IsOnAs phase b old
-    → IsOnAs (record { broken = phase.broken; pace = Hearing }) b new
+    → new ≡ record old { out_of_memory = true; book = new.book } → IsOnAs phase b old
+    → IsOnAs (record { link_failed = phase.link_failed; pace = Hearing }) b new
 halted_on phase b old new steps more saved due is ranks rest on =
-    let after : Phase = record { broken = phase.broken; pace = Hearing } in
+    let after : Phase = record { link_failed = phase.link_failed; pace = Hearing } in
     on_still phase after b old new (Halted steps) (ap (λ (h : CoordinatorSeen). h.crew.said) rest)
     (λ said. record {
       deciding = record { more = more; due = due; saved = saved };
@@ -386,11 +386,11 @@ halted_on phase b old new steps more saved due is ranks rest on =
 -- bytes, which were fed to the stream of their rank
 pub fed_on : (phase : Phase) (b : CoordinatorState) (old new : CoordinatorSeen) (rank : ℕ) → ¬ IsOver old.book
     → old.book.orders ≡ [] → phase.pace ≡ Hearing → AreReadOut old.streams
-    → HasFed old.crew new.crew old.streams new.streams rank → new.book ≡ old.book → new.wants ≡ old.wants
+    → HasFed old.crew new.crew old.streams new.streams rank → new.book ≡ old.book → new.out_of_memory ≡ old.out_of_memory
     → new.pacing ≡ old.pacing → IsOnAs phase b old
-    → IsOnAs (record { broken = phase.broken; pace = Reading }) b new
-fed_on phase b old new rank more told decided read h book wants pacing on =
-    let after : Phase = record { broken = phase.broken; pace = Reading } in
+    → IsOnAs (record { link_failed = phase.link_failed; pace = Reading }) b new
+fed_on phase b old new rank more told decided read h book out_of_memory pacing on =
+    let after : Phase = record { link_failed = phase.link_failed; pace = Reading } in
     let ranks = ap (λ (b : BookState). ranks_of b) book in
     on_more phase after b old new (Came rank h.bytes) (heard_from rank h.bytes) h.said
     (λ said. record {
@@ -401,25 +401,25 @@ fed_on phase b old new rank more told decided read h book wants pacing on =
           ∙ ap (λ (n : ℕ). record (coordinator_state (said ++ heard_from rank h.bytes) after new) { lives = old.crew.lives; faults = n })
           h.faults
           ∙ ap (λ (l : List Waiting). record (coordinator_state (said ++ heard_from rank h.bytes) after old) {
-            wants = new.wants;
+            out_of_memory = new.out_of_memory;
             pacing = new.pacing;
             streams = l;
             book = new.book;
           })
           h.streams
           ∙ ap (λ (book : BookState). record (coordinator_state (said ++ heard_from rank h.bytes) after old) {
-            wants = new.wants;
+            out_of_memory = new.out_of_memory;
             pacing = new.pacing;
             streams = slice_set old.streams rank (fed (slice_index_or old.streams rank first) h.bytes);
             book = book;
           }) book
           ∙ ap (λ (w : Bool). record (coordinator_state (said ++ heard_from rank h.bytes) after old) {
-            wants = w;
+            out_of_memory = w;
             pacing = new.pacing;
             streams = slice_set old.streams rank (fed (slice_index_or old.streams rank first) h.bytes);
-          }) wants
+          }) out_of_memory
           ∙ ap (λ (p : Pacing). record (coordinator_state (said ++ heard_from rank h.bytes) after old) {
-            wants = old.wants;
+            out_of_memory = old.out_of_memory;
             pacing = p;
             streams = slice_set old.streams rank (fed (slice_index_or old.streams rank first) h.bytes);
           }) pacing;
@@ -433,11 +433,11 @@ fed_on phase b old new rank more told decided read h book wants pacing on =
 -- and could not be kept
 pub lacked_on : (phase : Phase) (b : CoordinatorState) (old new : CoordinatorSeen) (rank : ℕ) → ¬ IsOver old.book
     → old.book.orders ≡ [] → phase.pace ≡ Hearing → AreReadOut old.streams
-    → HasLacked old.crew new.crew old.streams new.streams rank → new.book ≡ old.book → new.wants ≡ true
+    → HasLacked old.crew new.crew old.streams new.streams rank → new.book ≡ old.book → new.out_of_memory ≡ true
     → new.pacing ≡ old.pacing → IsOnAs phase b old
-    → IsOnAs (record { broken = phase.broken; pace = Reading }) b new
-lacked_on phase b old new rank more told decided read h book wants pacing on =
-    let after : Phase = record { broken = phase.broken; pace = Reading } in
+    → IsOnAs (record { link_failed = phase.link_failed; pace = Reading }) b new
+lacked_on phase b old new rank more told decided read h book out_of_memory pacing on =
+    let after : Phase = record { link_failed = phase.link_failed; pace = Reading } in
     let ranks = ap (λ (b : BookState). ranks_of b) book in
     on_more phase after b old new (Unfed rank h.bytes) (heard_from rank h.bytes) h.said
     (λ said. record {
@@ -448,25 +448,25 @@ lacked_on phase b old new rank more told decided read h book wants pacing on =
           ∙ ap (λ (n : ℕ). record (coordinator_state (said ++ heard_from rank h.bytes) after new) { lives = old.crew.lives; faults = n })
           h.faults
           ∙ ap (λ (l : List Waiting). record (coordinator_state (said ++ heard_from rank h.bytes) after old) {
-            wants = new.wants;
+            out_of_memory = new.out_of_memory;
             pacing = new.pacing;
             streams = l;
             book = new.book;
           })
           h.streams
           ∙ ap (λ (book : BookState). record (coordinator_state (said ++ heard_from rank h.bytes) after old) {
-            wants = new.wants;
+            out_of_memory = new.out_of_memory;
             pacing = new.pacing;
             streams = slice_set old.streams rank (shut (slice_index_or old.streams rank first));
             book = book;
           }) book
           ∙ ap (λ (w : Bool). record (coordinator_state (said ++ heard_from rank h.bytes) after old) {
-            wants = w;
+            out_of_memory = w;
             pacing = new.pacing;
             streams = slice_set old.streams rank (shut (slice_index_or old.streams rank first));
-          }) wants
+          }) out_of_memory
           ∙ ap (λ (p : Pacing). record (coordinator_state (said ++ heard_from rank h.bytes) after old) {
-            wants = true;
+            out_of_memory = true;
             pacing = p;
             streams = slice_set old.streams rank (shut (slice_index_or old.streams rank first));
           }) pacing;
@@ -482,11 +482,11 @@ pub took_on : (phase : Phase) (b : CoordinatorState) (old mid new : CoordinatorS
     → IsGiven reports.IsCarried reports.spelled (slice_index_or old.streams rank first) stream report
     → mid ≡ record old { streams = slice_set old.streams rank stream } → HasHeardReport mid new rank report
     → ¬ IsOver old.book → old.book.orders ≡ [] → MayBeRead phase.pace
-    → IsOnAs phase b old → IsOnAs (record { broken = phase.broken; pace = Deciding }) b new
+    → IsOnAs phase b old → IsOnAs (record { link_failed = phase.link_failed; pace = Deciding }) b new
 took_on phase b old mid new rank stream report given step heard more told may on =
-    let after : Phase = record { broken = phase.broken; pace = Deciding } in
+    let after : Phase = record { link_failed = phase.link_failed; pace = Deciding } in
     let both = heard.rest ∙ ap (λ (h : CoordinatorSeen). record h {
-      wants = new.wants;
+      out_of_memory = new.out_of_memory;
       book = after_hearing heard.answer rank report h.book;
     }) step in
     on_still phase after b old new (Took rank report heard.answer) (ap (λ (h : CoordinatorSeen). h.crew.said) both)
@@ -497,8 +497,8 @@ took_on phase b old mid new rank stream report given step heard more told may on
       given = given;
       due = subst (λ (book : BookState). IsDue book rank report heard.answer)
           (ap (λ (h : CoordinatorSeen). h.book) step) heard.due;
-      wants = subst (λ (w : Bool). IsMoreWanted heard.answer w new.wants) (ap (λ (h : CoordinatorSeen). h.wants) step)
-          heard.wants;
+      out_of_memory = subst (λ (w : Bool). IsMoreWanted heard.answer w new.out_of_memory) (ap (λ (h : CoordinatorSeen). h.out_of_memory) step)
+          heard.out_of_memory;
       rest = ap (λ (h : CoordinatorSeen). coordinator_state said after h) both;
     })
     (record {
@@ -514,9 +514,9 @@ pub nonsense_on : (phase : Phase) (b : CoordinatorState) (old mid new : Coordina
     → mid ≡ record old { streams = slice_set old.streams rank stream } → new ≡ without rank mid
     → ranks_of new.book ≡ ranks_of mid.book → rank < ranks_of old.book
     → ¬ IsOver old.book → old.book.orders ≡ [] → MayBeRead phase.pace → IsOnAs phase b old
-    → IsOnAs (record { broken = phase.broken; pace = Deciding }) b new
+    → IsOnAs (record { link_failed = phase.link_failed; pace = Deciding }) b new
 nonsense_on phase b old mid new rank stream at bad step lost ranks there more told may on =
-    let after : Phase = record { broken = phase.broken; pace = Deciding } in
+    let after : Phase = record { link_failed = phase.link_failed; pace = Deciding } in
     let both = lost ∙ ap (without rank) step in
     let wide = ranks ∙ ap (λ (h : CoordinatorSeen). ranks_of h.book) step in
     on_still phase after b old new (Lost rank Nonsense) (ap (λ (h : CoordinatorSeen). h.crew.said) both)
@@ -532,8 +532,8 @@ nonsense_on phase b old mid new rank stream at bad step lost ranks there more to
         faults = ap (λ (h : CoordinatorSeen). h.crew.faults) both;
       };
       lives = ap (λ (h : CoordinatorSeen). h.crew.lives) both;
-      broken = refl;
-      wants = ap (λ (h : CoordinatorSeen). h.wants) both;
+      link_failed = refl;
+      out_of_memory = ap (λ (h : CoordinatorSeen). h.out_of_memory) both;
       pace = refl;
       pacing = ap (λ (h : CoordinatorSeen). h.pacing) both;
       book = ap (λ (h : CoordinatorSeen). h.book) both;
@@ -550,11 +550,11 @@ pub gone_on : (phase : Phase) (b : CoordinatorState) (old new : CoordinatorSeen)
     → rank < ranks_of old.book → slice_index_or old.crew.lives rank false ≡ true
     → Adds old.crew.said new.crew.said (Gone rank ∷ []) → Rose old.crew.faults new.crew.faults
     → new.crew.lives ≡ slice_set old.crew.lives rank false → new.streams ≡ old.streams
-    → new.book ≡ killed rank old.book → ranks_of new.book ≡ ranks_of old.book → new.wants ≡ old.wants
+    → new.book ≡ killed rank old.book → ranks_of new.book ≡ ranks_of old.book → new.out_of_memory ≡ old.out_of_memory
     → new.pacing ≡ old.pacing → ¬ IsOver old.book → old.book.orders ≡ [] → phase.pace ≡ Hearing
-    → AreReadOut old.streams → IsOnAs phase b old → IsOnAs (record { broken = phase.broken; pace = Deciding }) b new
-gone_on phase b old new rank there alive adds faults lives streams book ranks wants pacing more told decided read on =
-    on_more phase (record { broken = phase.broken; pace = Deciding }) b old new (Lost rank Ended) (Gone rank ∷ []) adds
+    → AreReadOut old.streams → IsOnAs phase b old → IsOnAs (record { link_failed = phase.link_failed; pace = Deciding }) b new
+gone_on phase b old new rank there alive adds faults lives streams book ranks out_of_memory pacing more told decided read on =
+    on_more phase (record { link_failed = phase.link_failed; pace = Deciding }) b old new (Lost rank Ended) (Gone rank ∷ []) adds
     (λ said. record {
       there = there;
       why = record {
@@ -565,8 +565,8 @@ gone_on phase b old new rank there alive adds faults lives streams book ranks wa
         faults = faults;
       };
       lives = lives;
-      broken = refl;
-      wants = wants;
+      link_failed = refl;
+      out_of_memory = out_of_memory;
       pace = refl;
       pacing = pacing;
       book = book;
@@ -599,7 +599,7 @@ pub took_by : (b : CoordinatorState) (old mid new : CoordinatorSeen) (rank : ℕ
     → HasRead old.streams mid.streams rank (Message report) → mid ≡ record old { streams = mid.streams }
     → HasHeardReport mid new rank report → IsOnIn MayRead b old → IsOnIn (is_next Deciding) b new
 took_by b old mid new rank report more told read rest heard (phase, may, on) = (
-  record { broken = phase.broken; pace = Deciding },
+  record { link_failed = phase.link_failed; pace = Deciding },
   refl,
   took_on phase b old mid new rank read.stream report read.is
       (rest ∙ ap (λ (l : List Waiting). record old { streams = l }) read.set) heard more told may on,
@@ -620,7 +620,7 @@ pub nonsense_by : (b : CoordinatorState) (old mid new : CoordinatorSeen) (rank a
     → new ≡ without rank mid → ranks_of new.book ≡ ranks_of mid.book → rank < ranks_of old.book
     → IsOnIn MayRead b old → IsOnIn (is_next Deciding) b new
 nonsense_by b old mid new rank at more told read rest lost ranks there (phase, may, on) = (
-  record { broken = phase.broken; pace = Deciding },
+  record { link_failed = phase.link_failed; pace = Deciding },
   refl,
   nonsense_on phase b old mid new rank read.stream at read.is
       (rest ∙ ap (λ (l : List Waiting). record old { streams = l }) read.set) lost ranks there more told may on,
@@ -628,12 +628,12 @@ nonsense_by b old mid new rank at more told read rest lost ranks there (phase, m
 
 -- a report could not be read
 pub unread_by : (b : CoordinatorState) (old new : CoordinatorSeen) → ¬ IsOver old.book → old.book.orders ≡ []
-    → new ≡ record old { wants = true; streams = new.streams } → new.streams ≡ old.streams → IsOnIn MayRead b old
+    → new ≡ record old { out_of_memory = true; streams = new.streams } → new.streams ≡ old.streams → IsOnIn MayRead b old
     → IsOnIn (is_next Deciding) b new
 unread_by b old new more told rest streams (phase, may, on) =
-    let after : Phase = record { broken = phase.broken; pace = Deciding } in
-    let same : new ≡ record old { wants = true } =
-    rest ∙ ap (λ (l : List Waiting). record old { wants = true; streams = l }) streams in (
+    let after : Phase = record { link_failed = phase.link_failed; pace = Deciding } in
+    let same : new ≡ record old { out_of_memory = true } =
+    rest ∙ ap (λ (l : List Waiting). record old { out_of_memory = true; streams = l }) streams in (
       after,
       refl,
       on_still phase after b old new Unread (ap (λ (h : CoordinatorSeen). h.crew.said) same)
@@ -646,45 +646,45 @@ unread_by b old new more told rest streams (phase, may, on) =
 -- bytes came
 pub fed_by : (b : CoordinatorState) (old new : CoordinatorSeen) (rank : ℕ) → ¬ IsOver old.book → old.book.orders ≡ []
     → AreReadOut old.streams → HasFed old.crew new.crew old.streams new.streams rank → new.book ≡ old.book
-    → new.wants ≡ old.wants → new.pacing ≡ old.pacing → IsOnIn (is_next Hearing) b old → IsOnIn (is_next Reading) b new
-fed_by b old new rank more told read h book wants pacing (phase, decided, on) = (
-  record { broken = phase.broken; pace = Reading },
+    → new.out_of_memory ≡ old.out_of_memory → new.pacing ≡ old.pacing → IsOnIn (is_next Hearing) b old → IsOnIn (is_next Reading) b new
+fed_by b old new rank more told read h book out_of_memory pacing (phase, decided, on) = (
+  record { link_failed = phase.link_failed; pace = Reading },
   refl,
-  fed_on phase b old new rank more told decided read h book wants pacing on,
+  fed_on phase b old new rank more told decided read h book out_of_memory pacing on,
 )
 
 -- and memory ran out to keep them
 pub lacked_by : (b : CoordinatorState) (old new : CoordinatorSeen) (rank : ℕ) → ¬ IsOver old.book → old.book.orders ≡ []
     → AreReadOut old.streams → HasLacked old.crew new.crew old.streams new.streams rank → new.book ≡ old.book
-    → new.wants ≡ true → new.pacing ≡ old.pacing → IsOnIn (is_next Hearing) b old → IsOnIn (is_next Reading) b new
-lacked_by b old new rank more told read h book wants pacing (phase, decided, on) = (
-  record { broken = phase.broken; pace = Reading },
+    → new.out_of_memory ≡ true → new.pacing ≡ old.pacing → IsOnIn (is_next Hearing) b old → IsOnIn (is_next Reading) b new
+lacked_by b old new rank more told read h book out_of_memory pacing (phase, decided, on) = (
+  record { link_failed = phase.link_failed; pace = Reading },
   refl,
-  lacked_on phase b old new rank more told decided read h book wants pacing on,
+  lacked_on phase b old new rank more told decided read h book out_of_memory pacing on,
 )
 
 -- word that a rank is lost
 pub gone_by : (b : CoordinatorState) (old new : CoordinatorSeen) (rank : ℕ) → ¬ IsOver old.book → old.book.orders ≡ []
     → AreReadOut old.streams → HasGone old.crew new.crew old.streams new.streams rank
-    → new.book ≡ killed rank old.book → ranks_of new.book ≡ ranks_of old.book → new.wants ≡ old.wants
+    → new.book ≡ killed rank old.book → ranks_of new.book ≡ ranks_of old.book → new.out_of_memory ≡ old.out_of_memory
     → new.pacing ≡ old.pacing → IsOnIn (is_next Hearing) b old → IsOnIn (is_next Deciding) b new
-gone_by b old new rank more told read h book ranks wants pacing (phase, decided, on) = (
-  record { broken = phase.broken; pace = Deciding },
+gone_by b old new rank more told read h book ranks out_of_memory pacing (phase, decided, on) = (
+  record { link_failed = phase.link_failed; pace = Deciding },
   refl,
   gone_on phase b old new rank (omega (arith, h.lost.alive.there, on.fit.lives)) h.lost.alive.lives h.lost.said
-      h.lost.faults h.lost.lives h.streams book ranks wants pacing more told decided read on,
+      h.lost.faults h.lost.lives h.streams book ranks out_of_memory pacing more told decided read on,
 )
 
 -- it failed
 pub broke_by : (b : CoordinatorState) (old new : CoordinatorSeen) → ¬ IsOver old.book → old.book.orders ≡ []
     → AreReadOut old.streams → HasBroken old.crew new.crew old.streams new.streams → new.book ≡ old.book
-    → new.wants ≡ old.wants → new.pacing ≡ old.pacing → IsOnIn (is_next Hearing) b old → IsOnIn IsBrokenOff b new
-broke_by b old new more told read h book wants pacing (phase, decided, on) = (
-  record { broken = true; pace = Closing },
-  record { broken = refl; closing = refl },
+    → new.out_of_memory ≡ old.out_of_memory → new.pacing ≡ old.pacing → IsOnIn (is_next Hearing) b old → IsOnIn IsBrokenOff b new
+broke_by b old new more told read h book out_of_memory pacing (phase, decided, on) = (
+  record { link_failed = true; pace = Closing },
+  record { link_failed = refl; closing = refl },
   broke_on phase b old new more told decided read h.faults
       (ap (λ (l : List Waiting). record new { streams = l }) h.streams
-      ∙ ap (λ (w : Bool). record new { wants = w; streams = old.streams }) wants
+      ∙ ap (λ (w : Bool). record new { out_of_memory = w; streams = old.streams }) out_of_memory
       ∙ ap (λ (book : BookState). record old { crew = new.crew; pacing = new.pacing; book = book }) book
       ∙ ap (λ (p : Pacing). record old { crew = new.crew; pacing = p }) pacing
       ∙ ap (λ (crew : CrewSeen). record old { crew = crew }) (only_faults old.crew new.crew h.silent)) on,
@@ -694,7 +694,7 @@ pub lost_in : (b : CoordinatorState) (old new : CoordinatorSeen) (rank : ℕ) �
     → new ≡ without rank old → ranks_of new.book ≡ ranks_of old.book → IsOnIn IsBrokenOff b old
     → IsOnIn IsBrokenOff b new
 lost_in b old new rank there rest ranks (phase, is, on) =
-    (phase, is, lost_on phase b old new rank is.broken there rest ranks on)
+    (phase, is, lost_on phase b old new rank is.link_failed there rest ranks on)
 
 -- ---- decisions
 
@@ -703,17 +703,17 @@ pub decided_by : (b : CoordinatorState) (old new : CoordinatorSeen) → ¬ IsOve
     → ranks_of new.book ≡ ranks_of old.book → new ≡ record old { book = new.book } → IsOnIn IsRested b old
     → IsOnIn (is_next Hearing) b new
 decided_by b old new more saved is ranks rest (phase, due, on) = (
-  record { broken = phase.broken; pace = Hearing },
+  record { link_failed = phase.link_failed; pace = Hearing },
   refl,
   decided_on phase b old new more saved due is ranks rest on,
 )
 
 pub halted_by : (b : CoordinatorState) (old new : CoordinatorSeen) (steps : ℕ) → ¬ IsOver old.book
     → ¬ IsSaveDue old.pacing old.book → Stands steps old.book new.book → ranks_of new.book ≡ ranks_of old.book
-    → new ≡ record old { wants = true; book = new.book } → IsOnIn IsRested b old
+    → new ≡ record old { out_of_memory = true; book = new.book } → IsOnIn IsRested b old
     → IsOnIn (is_next Hearing) b new
 halted_by b old new steps more saved is ranks rest (phase, due, on) = (
-  record { broken = phase.broken; pace = Hearing },
+  record { link_failed = phase.link_failed; pace = Hearing },
   refl,
   halted_on phase b old new steps more saved due is ranks rest on,
 )
@@ -729,11 +729,11 @@ kept_on phase b old due on =
 -- an order could not be put into bytes
 pub unwritten_on : (phase : Phase) (b : CoordinatorState) (before : BookState) (h : CoordinatorSeen) (told : Told)
     → IsAlive h.crew told.rank → IsOrderTold before h.book told → IsOnAs phase b (record h { book = before })
-    → IsOnAs phase b (record h { wants = true })
+    → IsOnAs phase b (record h { out_of_memory = true })
 unwritten_on phase b before h told alive left on =
-    on_still phase phase b (record h { book = before }) (record h { wants = true }) (Unwritten told.rank told.order) refl
+    on_still phase phase b (record h { book = before }) (record h { out_of_memory = true }) (Unwritten told.rank told.order) refl
     (λ said. record { alive = alive.lives; told = left; rest = refl })
-    (fit_book (record h { wants = true }) before (told_ranks before h.book told left)
+    (fit_book (record h { out_of_memory = true }) before (told_ranks before h.book told left)
     (record { lives = on.fit.lives; streams = on.fit.streams })) on
 
 -- ---- the end
@@ -789,22 +789,22 @@ reading_reads b h (phase, is, on) = (phase, subst MayBeRead (sym is) tt, on)
 -- ---- the beginning
 
 abbrev pub begun_on : (b : BookState) (h : CoordinatorSeen) → IsFresh h.crew (ranks_of b) → h.book ≡ b
-    → h.streams ≡ replicate (ranks_of b) first → h.wants ≡ false → h.pacing ≡ record { since = b.heard; apart = 0 }
+    → h.streams ≡ replicate (ranks_of b) first → h.out_of_memory ≡ false → h.pacing ≡ record { since = b.heard; apart = 0 }
     → IsOnIn IsRested (beginning b h.crew.faults) h
-begun_on b h fresh book streams wants pacing = (
-  record { broken = false; pace = Deciding },
+begun_on b h fresh book streams out_of_memory pacing = (
+  record { link_failed = false; pace = Deciding },
   tt,
   record {
     said = [];
     come = record {
       actions = [];
       trace =
-          ap (λ (l : List Bool). record (coordinator_state [] (record { broken = false; pace = Deciding }) h) { lives = l }) fresh.lives
-          ∙ ap (λ (l : List Waiting). record (coordinator_state [] (record { broken = false; pace = Deciding }) h) {
+          ap (λ (l : List Bool). record (coordinator_state [] (record { link_failed = false; pace = Deciding }) h) { lives = l }) fresh.lives
+          ∙ ap (λ (l : List Waiting). record (coordinator_state [] (record { link_failed = false; pace = Deciding }) h) {
             lives = replicate (ranks_of b) false;
             streams = l;
           }) streams
-          ∙ ap (λ (w : Bool). record (beginning b h.crew.faults) { wants = w; pacing = h.pacing; book = h.book }) wants
+          ∙ ap (λ (w : Bool). record (beginning b h.crew.faults) { out_of_memory = w; pacing = h.pacing; book = h.book }) out_of_memory
           ∙ ap (λ (p : Pacing). record (beginning b h.crew.faults) { pacing = p; book = h.book }) pacing
           ∙ ap (λ (own : BookState). record (beginning b h.crew.faults) { book = own }) book;
     };

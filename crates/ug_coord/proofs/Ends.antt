@@ -77,7 +77,7 @@ nothing_coordinated b seen saver outcome disk fresh alive none = record {
   ended = ended_nothing outcome.end b none.ended;
   exact = no_book (IsExactly outcome.end) outcome.end none.ended;
   failed = refl;
-  wants = no_book (λ book. false ≡ false) outcome.end none.ended;
+  out_of_memory = no_book (λ book. false ≡ false) outcome.end none.ended;
   saved = no_book (λ book. ¬ IsSaveDue (record { since = b.heard; apart = 0 }) book) outcome.end none.ended;
   same = no_book (IsSameRun b) outcome.end none.ended;
   feasible = no_book HasFeasible outcome.end none.ended;
@@ -168,10 +168,10 @@ exactly_so (Stranded own) b is =
 exactly_so Memory b is = tt
 
 -- facts about the ending book
-pub record IsEndingBook (b : BookState) (end : End) (wants : Bool) (book : BookState) : Type 0 where
+pub record IsEndingBook (b : BookState) (end : End) (out_of_memory : Bool) (book : BookState) : Type 0 where
   pub made : IsBook b
   pub ended : is_ended end book
-  pub lacks : IfBook end (λ own. wants ≡ false)
+  pub lacks : IfBook end (λ own. out_of_memory ≡ false)
   pub same : IsSameRun b book
   pub within : IsWithin b
   pub alive : AreAlive b
@@ -180,7 +180,7 @@ pub record IsEndingBook (b : BookState) (end : End) (wants : Bool) (book : BookS
 
 pub solved_coordinated : (b : BookState) (faults : ℕ) (h : CoordinatorSeen) (old mid : KeptSeen) (disk : DiskSeen)
     (outcome : Outcome) → StartsAndEnds (ranks_of b) (beginning b faults) h old mid
-    → IsEndingBook b outcome.end h.wants h.book
+    → IsEndingBook b outcome.end h.out_of_memory h.book
     → IsOurs mid h.book → ¬ IsSaveDue h.pacing h.book → (o : Opening) → IfSome old.saves (IsBegun o)
     → HasConcluded outcome mid disk
     → HasCoordinated b faults h.crew outcome.end (AreEachSaved (savers old.saves) outcome disk)
@@ -197,7 +197,7 @@ solved_coordinated b faults h old mid disk outcome all is ours saved o own c =
       ended = subst (is_ended outcome.end) (sym e.its) is.ended;
       exact = exactly_so outcome.end h.book is.ended;
       failed = e.faults;
-      wants = subst (λ (w : Bool). IfBook outcome.end (λ own. w ≡ false)) (sym e.wants) is.lacks;
+      out_of_memory = subst (λ (w : Bool). IfBook outcome.end (λ own. w ≡ false)) (sym e.out_of_memory) is.lacks;
       saved = book_has (λ book. ¬ IsSaveDue e.now.pacing book) outcome.end h.book is.ended
           (subst (λ (p : Pacing). ¬ IsSaveDue p h.book) (sym e.pacing) saved);
       same = book_has (IsSameRun b) outcome.end h.book is.ended is.same;

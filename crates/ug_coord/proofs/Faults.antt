@@ -71,47 +71,47 @@ rose_since start old new since (inr full) = elim (cases_lt start new) [
 
 -- a turn failed only where it rose
 abbrev IsToldSo : ℕ → CoordinatorState → Type 0
-IsToldSo start s = s.broken ≡ true → Rose start s.faults
+IsToldSo start s = s.link_failed ≡ true → Rose start s.faults
 
-still_so : (start : ℕ) (old new : CoordinatorState) → new.broken ≡ old.broken → old.faults ≤ new.faults → IsToldSo start old
+still_so : (start : ℕ) (old new : CoordinatorState) → new.link_failed ≡ old.link_failed → old.faults ≤ new.faults → IsToldSo start old
     → IsToldSo start new
-still_so start old new same up so broken = rose_on start old.faults new.faults up (so (sym same ∙ broken))
+still_so start old new same up so link_failed = rose_on start old.faults new.faults up (so (sym same ∙ link_failed))
 
 told_so : (start : ℕ) (old : CoordinatorState) (action : Action) (new : CoordinatorState) → NextState old action new → start ≤ old.faults
     → IsToldSo start old → IsToldSo start new
 told_so start old (Launched rank) new does since so =
-    still_so start old new (ap (λ (s : CoordinatorState). s.broken) does.1) (faults_up old (Launched rank) new does) so
+    still_so start old new (ap (λ (s : CoordinatorState). s.link_failed) does.1) (faults_up old (Launched rank) new does) so
 told_so start old (SetUp rank bytes) new does since so =
-    still_so start old new (ap (λ (s : CoordinatorState). s.broken) does.rest) (faults_up old (SetUp rank bytes) new does) so
+    still_so start old new (ap (λ (s : CoordinatorState). s.link_failed) does.rest) (faults_up old (SetUp rank bytes) new does) so
 told_so start old (Closed rank) new does since so =
-    still_so start old new (ap (λ (s : CoordinatorState). s.broken) does.rest) (faults_up old (Closed rank) new does) so
+    still_so start old new (ap (λ (s : CoordinatorState). s.link_failed) does.rest) (faults_up old (Closed rank) new does) so
 told_so start old (Came rank bytes) new does since so =
-    still_so start old new (ap (λ (s : CoordinatorState). s.broken) does.rest) (faults_up old (Came rank bytes) new does) so
+    still_so start old new (ap (λ (s : CoordinatorState). s.link_failed) does.rest) (faults_up old (Came rank bytes) new does) so
 told_so start old (Took rank report answer) new does since so =
-    still_so start old new (ap (λ (s : CoordinatorState). s.broken) does.rest) (faults_up old (Took rank report answer) new does) so
+    still_so start old new (ap (λ (s : CoordinatorState). s.link_failed) does.rest) (faults_up old (Took rank report answer) new does) so
 told_so start old (Lost rank cause) new does since so =
-    still_so start old new does.broken (faults_up old (Lost rank cause) new does) so
+    still_so start old new does.link_failed (faults_up old (Lost rank cause) new does) so
 told_so start old Decided new does since so =
-    still_so start old new (ap (λ (s : CoordinatorState). s.broken) does.rest) (faults_up old Decided new does) so
+    still_so start old new (ap (λ (s : CoordinatorState). s.link_failed) does.rest) (faults_up old Decided new does) so
 told_so start old (Sent rank order) new does since so =
-    still_so start old new (ap (λ (s : CoordinatorState). s.broken) does.rest) (faults_up old (Sent rank order) new does) so
+    still_so start old new (ap (λ (s : CoordinatorState). s.link_failed) does.rest) (faults_up old (Sent rank order) new does) so
 told_so start old (Unsent rank order) new does since so =
-    still_so start old new (ap (λ (s : CoordinatorState). s.broken) does.rest) (faults_up old (Unsent rank order) new does) so
+    still_so start old new (ap (λ (s : CoordinatorState). s.link_failed) does.rest) (faults_up old (Unsent rank order) new does) so
 told_so start old (Passed rank order) new does since so =
-    still_so start old new (ap (λ (s : CoordinatorState). s.broken) does.rest) (faults_up old (Passed rank order) new does) so
-told_so start old Broke new does since so = λ broken. rose_since start old.faults new.faults since does.faults
+    still_so start old new (ap (λ (s : CoordinatorState). s.link_failed) does.rest) (faults_up old (Passed rank order) new does) so
+told_so start old Broke new does since so = λ link_failed. rose_since start old.faults new.faults since does.faults
 told_so start old (Unclosed rank) new does since so =
-    still_so start old new (ap (λ (s : CoordinatorState). s.broken) does.rest) (faults_up old (Unclosed rank) new does) so
+    still_so start old new (ap (λ (s : CoordinatorState). s.link_failed) does.rest) (faults_up old (Unclosed rank) new does) so
 told_so start old (Halted steps) new does since so =
-    still_so start old new (ap (λ (s : CoordinatorState). s.broken) does.rest) (faults_up old (Halted steps) new does) so
+    still_so start old new (ap (λ (s : CoordinatorState). s.link_failed) does.rest) (faults_up old (Halted steps) new does) so
 told_so start old (Unwritten rank order) new does since so =
-    still_so start old new (ap (λ (s : CoordinatorState). s.broken) does.rest) (faults_up old (Unwritten rank order) new does) so
+    still_so start old new (ap (λ (s : CoordinatorState). s.link_failed) does.rest) (faults_up old (Unwritten rank order) new does) so
 told_so start old (Unfed rank bytes) new does since so =
-    still_so start old new (ap (λ (s : CoordinatorState). s.broken) does.rest) (faults_up old (Unfed rank bytes) new does) so
+    still_so start old new (ap (λ (s : CoordinatorState). s.link_failed) does.rest) (faults_up old (Unfed rank bytes) new does) so
 told_so start old Unread new does since so =
-    still_so start old new (ap (λ (s : CoordinatorState). s.broken) does.1) (faults_up old Unread new does) so
+    still_so start old new (ap (λ (s : CoordinatorState). s.link_failed) does.1) (faults_up old Unread new does) so
 told_so start old Saved new does since so =
-    still_so start old new (ap (λ (s : CoordinatorState). s.broken) does.rest) (faults_up old Saved new does) so
+    still_so start old new (ap (λ (s : CoordinatorState). s.link_failed) does.rest) (faults_up old Saved new does) so
 
 -- ---- what shows that a rank is lost
 
@@ -204,11 +204,11 @@ trace_shows start old (action ∷ actions) new rank (mid, does, more) since so a
     ]
 
 pub dead_is_shown : (old : CoordinatorState) (actions : List Action) (new : CoordinatorState) (rank : ℕ) → IsTrace old actions new
-    → old.broken ≡ false → Alive old.book.ranks rank → is_alive (state_at new.book.ranks rank) ≡ false
+    → old.link_failed ≡ false → Alive old.book.ranks rank → is_alive (state_at new.book.ranks rank) ≡ false
     → IsShownGone old.faults new.faults rank actions
 dead_is_shown old actions new rank trace whole alive dead =
     elim (trace_shows old.faults old actions new rank trace (omega arith)
-    (λ broken. absurd (false≢true (sym whole ∙ broken))) alive) [
+    (λ link_failed. absurd (false≢true (sym whole ∙ link_failed))) alive) [
       | inl now ↦ absurd (false≢true (sym dead ∙ now))
       | inr shows ↦ shows
     ]

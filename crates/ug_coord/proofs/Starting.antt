@@ -93,11 +93,11 @@ none_lives n rank = elim (cases_lt rank n) [
 ]
 
 pub begun_started : (b : BookState) (h : CoordinatorSeen) → IsFresh h.crew (ranks_of b) → h.book ≡ b
-    → h.streams ≡ replicate (ranks_of b) first → h.wants ≡ false
+    → h.streams ≡ replicate (ranks_of b) first → h.out_of_memory ≡ false
     → h.pacing ≡ record { since = b.heard; apart = 0 }
     → IsStartedIn IsRested 0 (beginning b h.crew.faults) h
-begun_started b h fresh book streams wants pacing =
-    let (phase, is, on) = begun_on b h fresh book streams wants pacing in (
+begun_started b h fresh book streams out_of_memory pacing =
+    let (phase, is, on) = begun_on b h fresh book streams out_of_memory pacing in (
       phase,
       is,
       record {
@@ -159,7 +159,7 @@ starts_and_ends n phase from h last old new k same e =
         shown = e.shown;
         its = e.its;
         pacing = e.pacing;
-        wants = e.wants;
+        out_of_memory = e.out_of_memory;
         faults = e.faults;
         closed = λ rank alive. still_ended rank starts e.come.actions (e.closed rank alive);
         moves = where_moves (StaysSound mid e.now e.come) (StaysSound from e.now come) (Unit {0}) (Unit {0}) old.saves

@@ -57,8 +57,8 @@ pub record CoordinatorState : Type 0 where
   pub said : List Exchange
   pub lives : List Bool
   pub faults : ℕ
-  pub broken : Bool
-  pub wants : Bool
+  pub link_failed : Bool
+  pub out_of_memory : Bool
   pub pace : Pace
   pub pacing : Pacing
   pub streams : List Waiting
@@ -156,9 +156,9 @@ pub record IsTaken (old new : CoordinatorState) (rank : ℕ) (report : Report) (
   pub stream : Waiting
   pub given : IsGiven reports.IsCarried reports.spelled (stream_at old rank) stream report
   pub due : IsDue old.book rank report answer
-  pub wants : IsMoreWanted answer old.wants new.wants
+  pub out_of_memory : IsMoreWanted answer old.out_of_memory new.out_of_memory
   pub rest : new ≡ record old {
-    wants = new.wants;
+    out_of_memory = new.out_of_memory;
     streams = slice_set old.streams rank stream;
     pace = Deciding;
     book = after_hearing answer rank report old.book;
@@ -184,7 +184,7 @@ pub record HasEnded (old new : CoordinatorState) (rank : ℕ) : Type 0 where
 
 -- a turn failed before, or a call for the rank did now
 abbrev pub IsFault : CoordinatorState → CoordinatorState → Type 0
-IsFault old new = ((old.broken ≡ true) × (new.faults ≡ old.faults)) ⊎ Rose old.faults new.faults
+IsFault old new = ((old.link_failed ≡ true) × (new.faults ≡ old.faults)) ⊎ Rose old.faults new.faults
 
 -- why it is lost, and what the crew says of it then
 abbrev pub IsCause : CoordinatorState → CoordinatorState → ℕ → Cause → Type 0
@@ -203,8 +203,8 @@ pub record IsLost (old new : CoordinatorState) (rank : ℕ) (cause : Cause) : Ty
   pub there : rank < length old.book.ranks
   pub why : IsCause old new rank cause
   pub lives : new.lives ≡ slice_set old.lives rank false
-  pub broken : new.broken ≡ old.broken
-  pub wants : new.wants ≡ old.wants
+  pub link_failed : new.link_failed ≡ old.link_failed
+  pub out_of_memory : new.out_of_memory ≡ old.out_of_memory
   pub pace : new.pace ≡ next_after cause old.pace
   pub pacing : new.pacing ≡ old.pacing
   pub book : new.book ≡ killed rank old.book
@@ -242,7 +242,7 @@ pub record IsUnsent (old new : CoordinatorState) (rank : ℕ) (order : Order) : 
 pub record IsUnwritten (old new : CoordinatorState) (rank : ℕ) (order : Order) : Type 0 where
   pub alive : lives_at old rank ≡ true
   pub told : IsOrderTold old.book new.book (record { rank = rank; order = order })
-  pub rest : new ≡ record old { wants = true; book = new.book }
+  pub rest : new ≡ record old { out_of_memory = true; book = new.book }
 
 -- bytes came, and are in the stream of their rank
 pub record IsFed (old new : CoordinatorState) (rank : ℕ) (bytes : List ℕ) : Type 0 where
@@ -260,17 +260,17 @@ pub record IsUnfed (old new : CoordinatorState) (rank : ℕ) (bytes : List ℕ) 
   pub alive : lives_at old rank ≡ true
   pub rest : new ≡ record old {
     said = old.said ++ heard_from rank bytes;
-    wants = true;
+    out_of_memory = true;
     streams = slice_set old.streams rank (shut (stream_at old rank));
     pace = Reading;
   }
 
 -- it was decided, or the first steps of that stand; and whether memory ran out then
-pub record HasDecided (Is : BookState → BookState → Type 0) (wants : Bool) (old new : CoordinatorState)
+pub record HasDecided (Is : BookState → BookState → Type 0) (out_of_memory : Bool) (old new : CoordinatorState)
     : Type 0 where
   pub deciding : IsDeciding old
   pub is : Is old.book new.book
-  pub rest : new ≡ record old { wants = wants; book = new.book; pace = Hearing }
+  pub rest : new ≡ record old { out_of_memory = out_of_memory; book = new.book; pace = Hearing }
 
 -- the end was sent to a live rank
 pub record IsClosed (old new : CoordinatorState) (rank : ℕ) : Type 0 where
@@ -289,7 +289,7 @@ pub record IsUnclosed (old new : CoordinatorState) : Type 0 where
 pub record HasBroken (old new : CoordinatorState) : Type 0 where
   pub hearing : IsHearing old
   pub faults : Rose old.faults new.faults
-  pub rest : new ≡ record old { faults = new.faults; broken = true; pace = Closing }
+  pub rest : new ≡ record old { faults = new.faults; link_failed = true; pace = Closing }
 
 -- a save was due, and was tried
 pub record IsKept (old new : CoordinatorState) : Type 0 where
@@ -305,7 +305,7 @@ NextState old (Closed rank) new = IsClosed old new rank
 NextState old (Came rank bytes) new = IsFed old new rank bytes
 NextState old (Took rank report answer) new = IsTaken old new rank report answer
 NextState old (Lost rank cause) new = IsLost old new rank cause
-NextState old Decided new = HasDecided IsDecided old.wants old new
+NextState old Decided new = HasDecided IsDecided old.out_of_memory old new
 NextState old (Sent rank order) new = IsSent old new rank order
 NextState old (Unsent rank order) new = IsUnsent old new rank order
 NextState old (Passed rank order) new = IsPassed old new rank order
@@ -314,7 +314,7 @@ NextState old (Unclosed rank) new = IsUnclosed old new
 NextState old (Halted steps) new = HasDecided (Stands steps) true old new
 NextState old (Unwritten rank order) new = IsUnwritten old new rank order
 NextState old (Unfed rank bytes) new = IsUnfed old new rank bytes
-NextState old Unread new = IsReading old × (new ≡ record old { wants = true; pace = Deciding })
+NextState old Unread new = IsReading old × (new ≡ record old { out_of_memory = true; pace = Deciding })
 NextState old Kept new = IsKept old new
 
 -- the end was sent to the rank in one of the actions, or that failed

@@ -7,7 +7,7 @@ use Rattle.ug_coord.specs.Coordinators.{CoordinatorSeen}
 abbrev pub coordinator_seen : {R O C : Type 0} → (C → CrewSeen) → Coordinator R O C → CoordinatorSeen
 coordinator_seen seen coordinator = record {
   crew = seen coordinator.crew;
-  wants = coordinator.wants;
+  out_of_memory = coordinator.out_of_memory;
   pacing = coordinator.pacing;
   streams = coordinator.streams.items;
   book = coordinator.book;

@@ -37,8 +37,8 @@ beginning b faults = record {
   said = [];
   lives = replicate (ranks_of b) false;
   faults = faults;
-  broken = false;
-  wants = false;
+  link_failed = false;
+  out_of_memory = false;
   pace = Deciding;
   pacing = record { since = b.heard; apart = 0 };
   streams = replicate (ranks_of b) first;
@@ -58,7 +58,7 @@ StaysSound from now come = AreSound from come.actions now come.trace
 -- bytes of each rank of which no report was taken yet, and its book
 pub record CoordinatorSeen : Type 0 where
   pub crew : CrewSeen
-  pub wants : Bool
+  pub out_of_memory : Bool
   pub pacing : Pacing
   pub streams : List Waiting
   pub book : BookState
@@ -106,7 +106,7 @@ pub record IsFit (h : CoordinatorSeen) : Type 0 where
 
 -- whether a turn failed, and what comes next
 pub record Phase : Type 0 where
-  pub broken : Bool
+  pub link_failed : Bool
   pub pace : Pace
 
 -- what was said, and the phase, with what is seen
@@ -115,8 +115,8 @@ coordinator_state said phase h = record {
   said = said;
   lives = h.crew.lives;
   faults = h.crew.faults;
-  broken = phase.broken;
-  wants = h.wants;
+  link_failed = phase.link_failed;
+  out_of_memory = h.out_of_memory;
   pace = phase.pace;
   pacing = h.pacing;
   streams = h.streams;
@@ -148,7 +148,7 @@ MayRead phase = MayBeRead phase.pace
 
 -- a turn failed, and nothing is decided or received any more
 pub record IsBrokenOff (phase : Phase) : Type 0 where
-  pub broken : phase.broken ≡ true
+  pub link_failed : phase.link_failed ≡ true
   pub closing : phase.pace ≡ Closing
 
 abbrev pub AnyPhase : Phase → Type 0
@@ -201,7 +201,7 @@ pub record EndsFrom (from : CoordinatorState) (h : CoordinatorSeen) (old new : K
   pub shown : IfSome h.crew.said (λ told. told ≡ now.said)
   pub its : now.book ≡ h.book
   pub pacing : now.pacing ≡ h.pacing
-  pub wants : now.wants ≡ h.wants
+  pub out_of_memory : now.out_of_memory ≡ h.out_of_memory
   pub faults : now.faults ≡ h.crew.faults
   pub closed : (rank : ℕ) → lives_at now rank ≡ true → IsToldEnd rank come.actions
   pub moves : Moves (StaysSound from now come) (Unit {0}) old new
@@ -231,7 +231,7 @@ pub record HasCoordinated (b : BookState) (faults : ℕ) (seen : CrewSeen) (end 
   pub ended : is_ended end now.book
   pub exact : IfBook end (IsExactly end)
   pub failed : now.faults ≡ seen.faults
-  pub wants : IfBook end (λ book. now.wants ≡ false)
+  pub out_of_memory : IfBook end (λ book. now.out_of_memory ≡ false)
   pub saved : IfBook end (λ book. ¬ IsSaveDue now.pacing book)
   pub same : IfBook end (IsSameRun b)
   pub feasible : IfBook end HasFeasible
@@ -283,8 +283,8 @@ pub record HasHeardReport (old new : CoordinatorSeen) (rank : ℕ) (report : Rep
   pub answer : Heard
   pub due : IsDue old.book rank report answer
   pub ranks : ranks_of new.book ≡ ranks_of old.book
-  pub wants : IsMoreWanted answer old.wants new.wants
+  pub out_of_memory : IsMoreWanted answer old.out_of_memory new.out_of_memory
   pub rest : new ≡ record old {
-    wants = new.wants;
+    out_of_memory = new.out_of_memory;
     book = after_hearing answer rank report old.book;
   }

@@ -35,7 +35,7 @@ pub struct Coordinator<'a, R, O, C> {
     /// The rank from which bytes came last, while they may contain more reports.
     pub last: Option<u32>,
     /// Did memory run out?
-    pub wants: bool,
+    pub out_of_memory: bool,
     /// Decides when the next save is due.
     pub pacing: Pacing,
     /// The runtime, the allocator and the observer.
@@ -49,10 +49,10 @@ pub struct Coordinator<'a, R, O, C> {
 impl<R, O, C> Coordinator<'_, R, O, C> {
     // Did memory run out, or is an end due?
     fn has_stopped(&self) -> bool
-        ensures stopped { result ≡ true → self.now.wants ≡ false → IsOver self.now.book }
-        ensures on { result ≡ false → (self.now.wants ≡ false) × ¬ IsOver self.now.book }
+        ensures stopped { result ≡ true → self.now.out_of_memory ≡ false → IsOver self.now.book }
+        ensures on { result ≡ false → (self.now.out_of_memory ≡ false) × ¬ IsOver self.now.book }
     {
-        if self.wants {
+        if self.out_of_memory {
             return true;
         }
         is_over(&self.book)
@@ -74,7 +74,7 @@ impl<R, O, C: Crew> Coordinator<'_, R, O, C> {
     {
         match self.book.decide() {
             Ok(()) => {}
-            Err(_) => self.wants = true,
+            Err(_) => self.out_of_memory = true,
         }
     }
 
@@ -114,7 +114,7 @@ impl<R: Wait, O: Observer, C: Crew> Coordinator<'_, R, O, C> {
             → StartsAndEnds (ranks_of self.old.book) from (coordinator_seen C.seen self.new)
             (kept_seen checkpointer.old (D.seen disk.old))
             (kept_seen checkpointer.new (D.seen disk.new)) }
-        ensures over { self.new.wants ≡ false → IsOver self.new.book }
+        ensures over { self.new.out_of_memory ≡ false → IsOver self.new.book }
         ensures finished { C.finished self.new.crew ≡ true }
         ensures kept { HasKeptUp (coordinator_seen C.seen self.old)
             (coordinator_seen C.seen self.new)
@@ -140,7 +140,7 @@ impl<R: Wait, O: Observer, C: Crew> Coordinator<'_, R, O, C> {
         ensures hears { MatchBool result
             (HearsOne (coordinator_seen C.seen self.old) (coordinator_seen C.seen self.new))
             (IsQuiet (coordinator_seen C.seen self.old) (coordinator_seen C.seen self.new)) }
-        ensures over { result ≡ false → self.new.wants ≡ false → IsOver self.new.book }
+        ensures over { result ≡ false → self.new.out_of_memory ≡ false → IsOver self.new.book }
     {
         self.decide();
         if self.has_stopped() {
@@ -174,7 +174,7 @@ impl<R: Wait, O: Observer, C: Crew> Coordinator<'_, R, O, C> {
         ensures kept { HasKeptUp (coordinator_seen C.seen self.old)
             (coordinator_seen C.seen self.new)
             (kept_seen checkpointer.new (D.seen disk.new)) }
-        ensures over { result ≡ false → self.new.wants ≡ false → IsOver self.new.book }
+        ensures over { result ≡ false → self.new.out_of_memory ≡ false → IsOver self.new.book }
     {
         if !self.step() {
             return false;
@@ -196,7 +196,7 @@ impl<R: Wait, O: Observer, C: Crew> Coordinator<'_, R, O, C> {
             (kept_seen checkpointer.old (D.seen disk.old))
             → IsKeptIn AnyPhase from (coordinator_seen C.seen self.new) first
             (kept_seen checkpointer.new (D.seen disk.new)) }
-        ensures over { self.new.wants ≡ false → IsOver self.new.book }
+        ensures over { self.new.out_of_memory ≡ false → IsOver self.new.book }
         ensures kept { HasKeptUp (coordinator_seen C.seen self.old)
             (coordinator_seen C.seen self.new)
             (kept_seen checkpointer.new (D.seen disk.new)) }

@@ -82,7 +82,7 @@ impl<R, O: Observer, C: Crew> Coordinator<'_, R, O, C> {
                 false
             }
             Turn::Wanting { .. } => {
-                self.wants = true;
+                self.out_of_memory = true;
                 true
             }
         }
@@ -123,7 +123,7 @@ impl<R, O: Observer, C: Crew> Coordinator<'_, R, O, C> {
                 true
             }
             Err(_) => {
-                self.wants = true;
+                self.out_of_memory = true;
                 true
             }
         }
@@ -142,7 +142,7 @@ impl<R, O: Observer, C: Crew> Coordinator<'_, R, O, C> {
         let is_point = is_point(&report);
         let was_alive = self.book.is_alive(rank);
         let heard = self.book.hear(rank, report);
-        self.wants = self.wants || heard == Heard::Memory;
+        self.out_of_memory = self.out_of_memory || heard == Heard::Memory;
         if was_alive && !self.book.is_alive(rank) {
             self.host.observer.drops(rank, Dropped::Untrue);
         }

@@ -156,7 +156,7 @@ fn solve<R: Wait, D: Disk, O: Observer, C: Crew + Drop>(
         input,
         frame: setup,
         last: None,
-        wants: false,
+        out_of_memory: false,
         pacing,
     };
     coordinator.run(&mut checkpointer, disk);
@@ -165,14 +165,14 @@ fn solve<R: Wait, D: Disk, O: Observer, C: Crew + Drop>(
         streams,
         input,
         frame,
-        wants,
+        out_of_memory,
         crew,
         ..
     } = coordinator;
     drop(streams);
     drop(input);
     drop(frame);
-    let end = end_of(book, wants);
+    let end = end_of(book, out_of_memory);
     let outcome = conclude(checkpointer, disk, end);
     Coordinated { crew, outcome }
 }
@@ -279,16 +279,16 @@ fn setup_of(alloc: Global, book: &Book) -> Result<Vec<u8>, AllocError>
 }
 
 // Returns how a run ends whose end is due, unless memory ran out.
-fn end_of(book: Book, wants: bool) -> End
-    requires { wants ≡ false → IsOver book }
+fn end_of(book: Book, out_of_memory: bool) -> End
+    requires { out_of_memory ≡ false → IsOver book }
     ensures ended { is_ended result book }
-    ensures lacks { IfBook result (λ b. wants ≡ false) }
+    ensures lacks { IfBook result (λ b. out_of_memory ≡ false) }
     ensures feasible { IfBook result HasFeasible }
     ensures right { IfAnswered result (λ b. IsSoundBook b → IsRight b) }
 {
     // Whatever it began with, the incumbent of a book is feasible for its problem.
     let _problem = book.problem();
-    if wants {
+    if out_of_memory {
         drop(book);
         return End::Memory;
     }

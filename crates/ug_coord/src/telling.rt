@@ -140,7 +140,7 @@ impl<R, O, C: Crew> Coordinator<'_, R, O, C> {
             }
             Err(_) => {
                 drop(told);
-                self.wants = true;
+                self.out_of_memory = true;
             }
         }
     }
@@ -172,7 +172,8 @@ impl<R, O, C: Crew> Coordinator<'_, R, O, C> {
         ensures closed { (from : CoordinatorState) (old new : KeptSeen)
             → IsClosedBelow rank from (coordinator_seen C.seen self.old) old new
             → IsClosedBelow (suc rank) from (coordinator_seen C.seen self.new) old new }
-        ensures same { (self.new.book ≡ self.old.book) × (self.new.wants ≡ self.old.wants) }
+        ensures same { (self.new.book ≡ self.old.book)
+            × (self.new.out_of_memory ≡ self.old.out_of_memory) }
         ensures pacing { self.new.pacing ≡ self.old.pacing }
     {
         if self.crew.is_alive(rank) {
@@ -189,7 +190,8 @@ impl<R, O, C: Crew> Coordinator<'_, R, O, C> {
             → IsKeptIn AnyPhase from (coordinator_seen C.seen self.old) old new
             → EndsFrom from (coordinator_seen C.seen self.new) old new }
         ensures finished { C.finished self.new.crew ≡ true }
-        ensures same { (self.new.book ≡ self.old.book) × (self.new.wants ≡ self.old.wants) }
+        ensures same { (self.new.book ≡ self.old.book)
+            × (self.new.out_of_memory ≡ self.old.out_of_memory) }
         ensures pacing { self.new.pacing ≡ self.old.pacing }
     {
         for rank in 0..self.book.settings().solvers {
@@ -211,10 +213,10 @@ impl<R: Wait, O, C: Crew> Coordinator<'_, R, O, C> {
             → IsOnAs phase from (coordinator_seen C.seen self.new) }
         ensures quiet { IsQuiet (coordinator_seen C.seen self.old)
             (coordinator_seen C.seen self.new) }
-        ensures all { self.new.wants ≡ false → self.new.book.orders ≡ [] }
+        ensures all { self.new.out_of_memory ≡ false → self.new.book.orders ≡ [] }
     {
         for _ in self.host.rt.forever() {
-            if self.wants {
+            if self.out_of_memory {
                 return;
             }
             if !self.tell_next() {

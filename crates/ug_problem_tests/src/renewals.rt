@@ -17,7 +17,7 @@ use ug_branch::Params;
 use ug_mps::read;
 use ug_nodes::{Hands, Walk};
 use ug_rows::{IntBox, Interval, Point};
-use ug_worker::{Renewal, Reply, Seat, Took, Untaken, cutoff_of_point, work};
+use ug_worker::{ReleasePolicy, Reply, Seat, Took, Untaken, cutoff_of_point, work};
 
 // A seat with one task to give.
 #[derive(Drop)]
@@ -260,11 +260,11 @@ fn is_so<R: Wait>(rt: &R, alloc: Global, case: &Case) -> bool {
         told: Vec::new(alloc),
         is_handed: false,
     };
-    let renewal = Renewal {
+    let policy = ReleasePolicy {
         rounds: case.rounds,
         part: 1,
     };
-    work(rt, &mut seat, Some(renewal));
+    work(rt, &mut seat, Some(policy));
     let is_so = seat.told.as_slice() == case.told && seat.is_handed == case.is_handed;
     drop(seat);
     is_so

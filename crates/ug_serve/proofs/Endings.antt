@@ -23,8 +23,8 @@ use Rattle.ug_serve.proofs.Told.{behind, first_or, in_front, none_there}
 abbrev is_over : Stage → Bool
 is_over Blank = false
 is_over (SetUp basis) = false
-is_over (Free basis tally) = false
-is_over (Busy basis tally e) = false
+is_over (Free basis round_count) = false
+is_over (Busy basis round_count e) = false
 is_over Ending = false
 is_over Over = true
 
@@ -48,22 +48,22 @@ taken_over Blank (orders.Winner ticket) t is over = absurd is
 taken_over Blank (orders.Stop ticket) t is over = absurd is
 taken_over Blank orders.End t is over = absurd is
 taken_over (SetUp basis) order t is over = absurd is
-taken_over (Free basis tally) (orders.Setup gap bytes) t is over = absurd is
-taken_over (Free basis tally) (orders.Work ticket params race cutoff changes) t is over = other t _ is.begins refl over
-taken_over (Free basis tally) (orders.Incumbent cutoff) t is over = other t _ is refl over
-taken_over (Free basis tally) (orders.CollectIn ticket count) t is over = other t _ is refl over
-taken_over (Free basis tally) (orders.CollectOut ticket) t is over = other t _ is refl over
-taken_over (Free basis tally) (orders.Winner ticket) t is over = other t _ is refl over
-taken_over (Free basis tally) (orders.Stop ticket) t is over = other t _ is refl over
-taken_over (Free basis tally) orders.End t is over = other t _ is refl over
-taken_over (Busy basis tally e) (orders.Setup gap bytes) t is over = absurd is
-taken_over (Busy basis tally e) (orders.Work ticket params race cutoff changes) t is over = absurd is
-taken_over (Busy basis tally e) (orders.Incumbent cutoff) t is over = other t _ is.1 refl over
-taken_over (Busy basis tally e) (orders.CollectIn ticket count) t is over = for_task t _ _ _ _ is.done refl refl over
-taken_over (Busy basis tally e) (orders.CollectOut ticket) t is over = for_task t _ _ _ _ is.done refl refl over
-taken_over (Busy basis tally e) (orders.Winner ticket) t is over = for_task t _ _ _ _ is.done refl refl over
-taken_over (Busy basis tally e) (orders.Stop ticket) t is over = for_task t _ _ _ _ is.done refl refl over
-taken_over (Busy basis tally e) orders.End t is over = other t _ is.1 refl over
+taken_over (Free basis round_count) (orders.Setup gap bytes) t is over = absurd is
+taken_over (Free basis round_count) (orders.Work ticket params race cutoff changes) t is over = other t _ is.begins refl over
+taken_over (Free basis round_count) (orders.Incumbent cutoff) t is over = other t _ is refl over
+taken_over (Free basis round_count) (orders.CollectIn ticket count) t is over = other t _ is refl over
+taken_over (Free basis round_count) (orders.CollectOut ticket) t is over = other t _ is refl over
+taken_over (Free basis round_count) (orders.Winner ticket) t is over = other t _ is refl over
+taken_over (Free basis round_count) (orders.Stop ticket) t is over = other t _ is refl over
+taken_over (Free basis round_count) orders.End t is over = other t _ is refl over
+taken_over (Busy basis round_count e) (orders.Setup gap bytes) t is over = absurd is
+taken_over (Busy basis round_count e) (orders.Work ticket params race cutoff changes) t is over = absurd is
+taken_over (Busy basis round_count e) (orders.Incumbent cutoff) t is over = other t _ is.1 refl over
+taken_over (Busy basis round_count e) (orders.CollectIn ticket count) t is over = for_task t _ _ _ _ is.done refl refl over
+taken_over (Busy basis round_count e) (orders.CollectOut ticket) t is over = for_task t _ _ _ _ is.done refl refl over
+taken_over (Busy basis round_count e) (orders.Winner ticket) t is over = for_task t _ _ _ _ is.done refl refl over
+taken_over (Busy basis round_count e) (orders.Stop ticket) t is over = for_task t _ _ _ _ is.done refl refl over
+taken_over (Busy basis round_count e) orders.End t is over = other t _ is.1 refl over
 taken_over Ending order t is over = absurd is
 taken_over Over order t is over = absurd is
 
@@ -76,13 +76,13 @@ told_over (SetUp basis) (Hand ticket number changes) t is over = absurd is
 told_over (SetUp basis) (State ticket nodes floor) t is over = absurd is
 told_over (SetUp basis) (Done ticket cutoff count ending) t is over = absurd is
 told_over (SetUp basis) Ended t is over = refl
-told_over (Free basis tally) report t is over = absurd is
-told_over (Busy basis tally e) Ready t is over = absurd is
-told_over (Busy basis tally e) (Solution ticket x) t (f, its, found, is) over = absurd (other t _ is refl over)
-told_over (Busy basis tally e) (Hand ticket number changes) t (f, hand, is) over = absurd (other t _ is refl over)
-told_over (Busy basis tally e) (State ticket nodes floor) t (f, its, stated, is) over = absurd (other t _ is refl over)
-told_over (Busy basis tally e) (Done ticket cutoff count ending) t (done, is) over = absurd (other t _ is refl over)
-told_over (Busy basis tally e) Ended t is over = refl
+told_over (Free basis round_count) report t is over = absurd is
+told_over (Busy basis round_count e) Ready t is over = absurd is
+told_over (Busy basis round_count e) (Solution ticket x) t (f, its, found, is) over = absurd (other t _ is refl over)
+told_over (Busy basis round_count e) (Hand ticket number changes) t (f, hand, is) over = absurd (other t _ is refl over)
+told_over (Busy basis round_count e) (State ticket nodes floor) t (f, its, stated, is) over = absurd (other t _ is refl over)
+told_over (Busy basis round_count e) (Done ticket cutoff count ending) t (done, is) over = absurd (other t _ is refl over)
+told_over (Busy basis round_count e) Ended t is over = refl
 told_over Ending Ready t is over = absurd is
 told_over Ending (Solution ticket x) t is over = absurd is
 told_over Ending (Hand ticket number changes) t is over = absurd is
@@ -94,8 +94,8 @@ told_over Over report t is over = absurd is
 told_ended : (s t : Stage) → IsTold s Ended t → is_over t ≡ true
 told_ended Blank t is = absurd is
 told_ended (SetUp basis) t is = absurd is
-told_ended (Free basis tally) t is = absurd is
-told_ended (Busy basis tally e) t is = absurd is
+told_ended (Free basis round_count) t is = absurd is
+told_ended (Busy basis round_count e) t is = absurd is
 told_ended Ending t is = ap is_over is
 told_ended Over t is = absurd is
 
@@ -103,24 +103,24 @@ told_ended Over t is = absurd is
 none_taken : (s : Stage) (order : Order) (t : Stage) → IsTaken s order t → is_over s ≡ true → ⊥
 none_taken Blank order t is over = false≢true over
 none_taken (SetUp basis) order t is over = false≢true over
-none_taken (Free basis tally) order t is over = false≢true over
-none_taken (Busy basis tally e) order t is over = false≢true over
+none_taken (Free basis round_count) order t is over = false≢true over
+none_taken (Busy basis round_count e) order t is over = false≢true over
 none_taken Ending order t is over = false≢true over
 none_taken Over order t is over = is
 
 none_told : (s : Stage) (report : Report) (t : Stage) → IsTold s report t → is_over s ≡ true → ⊥
 none_told Blank report t is over = false≢true over
 none_told (SetUp basis) report t is over = false≢true over
-none_told (Free basis tally) report t is over = false≢true over
-none_told (Busy basis tally e) report t is over = false≢true over
+none_told (Free basis round_count) report t is over = false≢true over
+none_told (Busy basis round_count e) report t is over = false≢true over
 none_told Ending report t is over = false≢true over
 none_told Over report t is over = is
 
 open_on : (s : Stage) → IsOpen s → is_over s ≡ true → ⊥
 open_on Blank shows over = false≢true over
 open_on (SetUp basis) shows over = false≢true over
-open_on (Free basis tally) shows over = false≢true over
-open_on (Busy basis tally e) shows over = false≢true over
+open_on (Free basis round_count) shows over = false≢true over
+open_on (Busy basis round_count e) shows over = false≢true over
 open_on Ending shows over = shows
 open_on Over shows over = shows
 

@@ -17,8 +17,8 @@ use Rattle.ug_stream.specs.Streams.{Waiting}
 use Rattle.ug_serve.specs.declared.served.Served.{Served}
 use Rattle.ug_serve.specs.declared.kept.Kept.{Kept}
 use Rattle.ug_worker.specs.Engagements.{Engaged, HasBegun, IsFoundBy, IsHandedBy, IsStatedBy, lowered}
-use Rattle.ug_worker.specs.declared.tally.Tally.{Tally}
-use Rattle.ug_worker.specs.Renewals.{begun}
+use Rattle.ug_worker.specs.declared.round_count.RoundCount.{RoundCount}
+use Rattle.ug_worker.specs.Releases.{begun}
 use Rattle.ug_worker.proofs.Quiet.{quiet_same}
 use Rattle.ug_serve.specs.Actions.{Busy, Free, IsForTask, IsTaken, Over, Stage}
 use Rattle.ug_serve.specs.Serving.{HasNext, HasEnded, StandsOn, has_ended, stands_as}
@@ -42,9 +42,9 @@ found_agrees k e f x a h =
       asked = ap (λ (g : Engaged). g.asked) h.same ∙ a.asked;
     }
 
-pub handed_agrees : (k : Kept) (tally : Tally) (e f : Engaged) (number : ℕ) (area : List Interval) → Agrees k e
-    → IsHandedBy tally e number area f → Agrees (record k { asked = k.asked - 1 }) f
-handed_agrees k tally e f number area a h =
+pub handed_agrees : (k : Kept) (round_count : RoundCount) (e f : Engaged) (number : ℕ) (area : List Interval) → Agrees k e
+    → IsHandedBy round_count e number area f → Agrees (record k { asked = k.asked - 1 }) f
+handed_agrees k round_count e f number area a h =
     let same = quiet_same h.since.more e.task h.task h.since.quiet in
     record {
       problem = ap (λ (t : TaskState). t.problem) h.handed.same ∙ same.problem ∙ a.problem;
@@ -55,9 +55,9 @@ handed_agrees k tally e f number area a h =
       asked = ap (λ (g : Engaged). g.asked) h.same ∙ ap (λ (n : ℕ). n - 1) a.asked;
     }
 
-pub stated_agrees : (k : Kept) (tally : Tally) (e f : Engaged) (left : ℕ) (floor : ℤ) → Agrees k e
-    → IsStatedBy tally e left floor f → Agrees k f
-stated_agrees k tally e f left floor a h =
+pub stated_agrees : (k : Kept) (round_count : RoundCount) (e f : Engaged) (left : ℕ) (floor : ℤ) → Agrees k e
+    → IsStatedBy round_count e left floor f → Agrees k f
+stated_agrees k round_count e f left floor a h =
     let same = quiet_same h.since.more e.task h.task h.since.quiet in
     let task : f.task ≡ h.task = ap (λ (g : Engaged). g.task) h.same in
     record {
@@ -70,10 +70,10 @@ stated_agrees k tally e f left floor a h =
     }
 
 -- the same floor by another name
-pub stated_told : (tally : Tally) (e f : Engaged) (left : ℕ) (floor told : ℤ) → told ≡ floor
-    → IsStatedBy tally e left floor f → IsStatedBy tally e left told f
-stated_told tally e f left floor told same h =
-    subst (λ (value : ℤ). IsStatedBy tally e left value f) (sym same) h
+pub stated_told : (round_count : RoundCount) (e f : Engaged) (left : ℕ) (floor told : ℤ) → told ≡ floor
+    → IsStatedBy round_count e left floor f → IsStatedBy round_count e left told f
+stated_told round_count e f left floor told same h =
+    subst (λ (value : ℤ). IsStatedBy round_count e left value f) (sym same) h
 
 -- ---- cutoffs one after another
 
@@ -127,7 +127,7 @@ ended_stands (Some end) seen w stage h = h
 
 -- ---- an order that was due
 
-pub seated_next : (s : SeatSeen) (k : Kept) (old new : Tally) (some other : Option Engaged) (order : Order)
+pub seated_next : (s : SeatSeen) (k : Kept) (old new : RoundCount) (some other : Option Engaged) (order : Order)
     → IsGap k.gap → agrees k other → IsOrdered s old some order
     → IsTaken (stage_of (basis_of s.keeps) old some) order (stage_of (basis_of k) new other)
     → IsSeated (record s { keeps = k }) new other
@@ -161,27 +161,27 @@ ended_by end seen w stage served some stands =
 
 -- ---- orders that leave the task
 
-pub going_on : (s : SeatSeen) (k : Kept) (tally : Tally) (e f : Engaged) (order : Order) (task : TaskState)
-    (cutoff : Option ℤ) → IsOrdered s tally (Some e) order → k.gap ≡ s.keeps.gap → Agrees k f
-    → IsTaken (Busy (basis_of s.keeps) tally e) order (Busy (basis_of k) tally f) → f.made ≡ 0
-    → f.task ≡ lowered cutoff task → IsGoing (record s { keeps = k }) tally task cutoff
-going_on s k tally e f order task cutoff h gap agree taken made its = record {
+pub going_on : (s : SeatSeen) (k : Kept) (round_count : RoundCount) (e f : Engaged) (order : Order) (task : TaskState)
+    (cutoff : Option ℤ) → IsOrdered s round_count (Some e) order → k.gap ≡ s.keeps.gap → Agrees k f
+    → IsTaken (Busy (basis_of s.keeps) round_count e) order (Busy (basis_of k) round_count f) → f.made ≡ 0
+    → f.task ≡ lowered cutoff task → IsGoing (record s { keeps = k }) round_count task cutoff
+going_on s k round_count e f order task cutoff h gap agree taken made its = record {
   now = f;
-  seated = seated_next s k tally tally (Some e) (Some f) order (subst IsGap (sym gap) h.gap) agree h taken;
+  seated = seated_next s k round_count round_count (Some e) (Some f) order (subst IsGap (sym gap) h.gap) agree h taken;
   made = made;
   its = its;
 }
 
 -- this many boxes are asked for
-pub asked_going : (s : SeatSeen) (k : Kept) (tally : Tally) (e : Engaged) (ticket : Ticket) (count : ℕ) (order : Order)
-    (task : TaskState) (cutoff : Option ℤ) → e.made ≡ 0 → IsOrdered s tally (Some e) order
+pub asked_going : (s : SeatSeen) (k : Kept) (round_count : RoundCount) (e : Engaged) (ticket : Ticket) (count : ℕ) (order : Order)
+    (task : TaskState) (cutoff : Option ℤ) → e.made ≡ 0 → IsOrdered s round_count (Some e) order
     → IsAsked s.keeps ticket count k → e.task ≡ lowered cutoff task
-    → ((new : Stage) → IsForTask e ticket (Busy (basis_of s.keeps) tally (record e { asked = count }))
-    (Busy (basis_of s.keeps) tally e) new → IsTaken (Busy (basis_of s.keeps) tally e) order new)
-    → IsGoing (record s { keeps = k }) tally task cutoff
-asked_going s k tally e ticket count order task cutoff made h (inl (its, set)) same takes =
-    subst (λ (k : Kept). IsGoing (record s { keeps = k }) tally task cutoff) (sym set)
-    (going_on s (record s.keeps { asked = count }) tally e (record e { asked = count }) order task cutoff h refl
+    → ((new : Stage) → IsForTask e ticket (Busy (basis_of s.keeps) round_count (record e { asked = count }))
+    (Busy (basis_of s.keeps) round_count e) new → IsTaken (Busy (basis_of s.keeps) round_count e) order new)
+    → IsGoing (record s { keeps = k }) round_count task cutoff
+asked_going s k round_count e ticket count order task cutoff made h (inl (its, set)) same takes =
+    subst (λ (k : Kept). IsGoing (record s { keeps = k }) round_count task cutoff) (sym set)
+    (going_on s (record s.keeps { asked = count }) round_count e (record e { asked = count }) order task cutoff h refl
     (record {
       problem = h.agrees.problem;
       gap = h.agrees.gap;
@@ -190,21 +190,21 @@ asked_going s k tally e ticket count order task cutoff made h (inl (its, set)) s
       racing = h.agrees.racing;
       asked = refl;
     })
-    (takes (Busy (basis_of s.keeps) tally (record e { asked = count }))
+    (takes (Busy (basis_of s.keeps) round_count (record e { asked = count }))
     (record { between = made; done = inl (its ∙ sym h.agrees.ticket, refl) })) made same)
-asked_going s k tally e ticket count order task cutoff made h (inr (other, kept)) same takes =
-    subst (λ (k : Kept). IsGoing (record s { keeps = k }) tally task cutoff) (sym kept)
-    (going_on s s.keeps tally e e order task cutoff h refl h.agrees
-    (takes (Busy (basis_of s.keeps) tally e)
+asked_going s k round_count e ticket count order task cutoff made h (inr (other, kept)) same takes =
+    subst (λ (k : Kept). IsGoing (record s { keeps = k }) round_count task cutoff) (sym kept)
+    (going_on s s.keeps round_count e e order task cutoff h refl h.agrees
+    (takes (Busy (basis_of s.keeps) round_count e)
     (record { between = made; done = inr ((λ its. other (its ∙ h.agrees.ticket)), refl) })) made same)
 
 -- the race is won
-pub won_going : (s : SeatSeen) (k : Kept) (tally : Tally) (e : Engaged) (ticket : Ticket) (task : TaskState)
-    (cutoff : Option ℤ) → e.made ≡ 0 → IsOrdered s tally (Some e) (Winner ticket) → IsWon s.keeps ticket k
-    → e.task ≡ lowered cutoff task → IsGoing (record s { keeps = k }) tally task cutoff
-won_going s k tally e ticket task cutoff made h (inl (its, set)) same =
-    subst (λ (k : Kept). IsGoing (record s { keeps = k }) tally task cutoff) (sym set)
-    (going_on s (record s.keeps { racing = false }) tally e (record e { racing = false }) (Winner ticket) task cutoff
+pub won_going : (s : SeatSeen) (k : Kept) (round_count : RoundCount) (e : Engaged) (ticket : Ticket) (task : TaskState)
+    (cutoff : Option ℤ) → e.made ≡ 0 → IsOrdered s round_count (Some e) (Winner ticket) → IsWon s.keeps ticket k
+    → e.task ≡ lowered cutoff task → IsGoing (record s { keeps = k }) round_count task cutoff
+won_going s k round_count e ticket task cutoff made h (inl (its, set)) same =
+    subst (λ (k : Kept). IsGoing (record s { keeps = k }) round_count task cutoff) (sym set)
+    (going_on s (record s.keeps { racing = false }) round_count e (record e { racing = false }) (Winner ticket) task cutoff
     h refl
     (record {
       problem = h.agrees.problem;
@@ -215,17 +215,17 @@ won_going s k tally e ticket task cutoff made h (inl (its, set)) same =
       asked = h.agrees.asked;
     })
     (record { between = made; done = inl (its ∙ sym h.agrees.ticket, refl) }) made same)
-won_going s k tally e ticket task cutoff made h (inr (other, kept)) same =
-    subst (λ (k : Kept). IsGoing (record s { keeps = k }) tally task cutoff) (sym kept)
-    (going_on s s.keeps tally e e (Winner ticket) task cutoff h refl h.agrees
+won_going s k round_count e ticket task cutoff made h (inr (other, kept)) same =
+    subst (λ (k : Kept). IsGoing (record s { keeps = k }) round_count task cutoff) (sym kept)
+    (going_on s s.keeps round_count e e (Winner ticket) task cutoff h refl h.agrees
     (record { between = made; done = inr ((λ its. other (its ∙ h.agrees.ticket)), refl) }) made same)
 
 -- a lower cutoff
-pub lowered_going : (s : SeatSeen) (tally : Tally) (e : Engaged) (told : ℤ) (task : TaskState) (cutoff : Option ℤ)
-    → e.made ≡ 0 → IsOrdered s tally (Some e) (Incumbent told) → e.task ≡ lowered cutoff task
-    → IsGoing s tally task (Some (lesser_of cutoff told))
-lowered_going s tally e told task cutoff made h same =
-    going_on s s.keeps tally e (record e { task = lowered (Some told) e.task }) (Incumbent told) task
+pub lowered_going : (s : SeatSeen) (round_count : RoundCount) (e : Engaged) (told : ℤ) (task : TaskState) (cutoff : Option ℤ)
+    → e.made ≡ 0 → IsOrdered s round_count (Some e) (Incumbent told) → e.task ≡ lowered cutoff task
+    → IsGoing s round_count task (Some (lesser_of cutoff told))
+lowered_going s round_count e told task cutoff made h same =
+    going_on s s.keeps round_count e (record e { task = lowered (Some told) e.task }) (Incumbent told) task
     (Some (lesser_of cutoff told)) h refl
     (record {
       problem = h.agrees.problem;
@@ -238,44 +238,44 @@ lowered_going s tally e told task cutoff made h same =
     (made, refl) made (ap (lowered (Some told)) same ∙ lowered_on cutoff told task)
 
 -- the task is dropped
-pub stopped : (s : SeatSeen) (tally : Tally) (e : Engaged) (ticket : Ticket) → e.made ≡ 0 → ticket ≡ s.keeps.ticket
-    → IsOrdered s tally (Some e) (Stop ticket) → IsSeated s tally None
-stopped s tally e ticket made its h =
-    seated_next s s.keeps tally tally (Some e) None (Stop ticket) h.gap tt h
+pub stopped : (s : SeatSeen) (round_count : RoundCount) (e : Engaged) (ticket : Ticket) → e.made ≡ 0 → ticket ≡ s.keeps.ticket
+    → IsOrdered s round_count (Some e) (Stop ticket) → IsSeated s round_count None
+stopped s round_count e ticket made its h =
+    seated_next s s.keeps round_count round_count (Some e) None (Stop ticket) h.gap tt h
     (record { between = made; done = inl (its ∙ sym h.agrees.ticket, refl) })
 
-pub not_stopped : (s : SeatSeen) (tally : Tally) (e : Engaged) (ticket : Ticket) (task : TaskState) (cutoff : Option ℤ)
-    → e.made ≡ 0 → ticket ≢ s.keeps.ticket → IsOrdered s tally (Some e) (Stop ticket)
-    → e.task ≡ lowered cutoff task → IsGoing s tally task cutoff
-not_stopped s tally e ticket task cutoff made other h same =
-    going_on s s.keeps tally e e (Stop ticket) task cutoff h refl h.agrees
+pub not_stopped : (s : SeatSeen) (round_count : RoundCount) (e : Engaged) (ticket : Ticket) (task : TaskState) (cutoff : Option ℤ)
+    → e.made ≡ 0 → ticket ≢ s.keeps.ticket → IsOrdered s round_count (Some e) (Stop ticket)
+    → e.task ≡ lowered cutoff task → IsGoing s round_count task cutoff
+not_stopped s round_count e ticket task cutoff made other h same =
+    going_on s s.keeps round_count e e (Stop ticket) task cutoff h refl h.agrees
     (record { between = made; done = inr ((λ its. other (its ∙ h.agrees.ticket)), refl) }) made same
 
 -- the service has ended
-pub seated_ended : (s : SeatSeen) (tally : Tally) → IsGap s.keeps.gap → has_ended s.end s.link → IsSeated s tally None
-seated_ended s tally gap h = record { gap = gap; agrees = tt; stands = ended_stands s.end s.link s.waiting (Free (basis_of s.keeps) tally) h }
+pub seated_ended : (s : SeatSeen) (round_count : RoundCount) → IsGap s.keeps.gap → has_ended s.end s.link → IsSeated s round_count None
+seated_ended s round_count gap h = record { gap = gap; agrees = tt; stands = ended_stands s.end s.link s.waiting (Free (basis_of s.keeps) round_count) h }
 
 -- dropped where the order to stop is for the task
-pub stop_obeyed : (b : Bool) (s : SeatSeen) (tally : Tally) (e : Engaged) (ticket : Ticket) (task : TaskState)
+pub stop_obeyed : (b : Bool) (s : SeatSeen) (round_count : RoundCount) (e : Engaged) (ticket : Ticket) (task : TaskState)
     (cutoff : Option ℤ) → e.made ≡ 0
     → MatchBool b (ticket ≡ s.keeps.ticket) (ticket ≢ s.keeps.ticket)
-    → IsOrdered s tally (Some e) (Stop ticket) → e.task ≡ lowered cutoff task → IsObeyed (not b) s tally task cutoff
-stop_obeyed true s tally e ticket task cutoff made its h same = stopped s tally e ticket made its h
-stop_obeyed false s tally e ticket task cutoff made other h same =
-    not_stopped s tally e ticket task cutoff made other h same
+    → IsOrdered s round_count (Some e) (Stop ticket) → e.task ≡ lowered cutoff task → IsObeyed (not b) s round_count task cutoff
+stop_obeyed true s round_count e ticket task cutoff made its h same = stopped s round_count e ticket made its h
+stop_obeyed false s round_count e ticket task cutoff made other h same =
+    not_stopped s round_count e ticket task cutoff made other h same
 
 -- a task that begins
-pub begun_seated : (s : SeatSeen) (tally : Tally) (ticket : Ticket) (params : Params) (race : Bool) (cutoff : Option ℤ)
-    (changes : List Change) (task : TaskState) → IsOrdered s tally None (Work ticket params race cutoff changes)
+pub begun_seated : (s : SeatSeen) (round_count : RoundCount) (ticket : Ticket) (params : Params) (race : Bool) (cutoff : Option ℤ)
+    (changes : List Change) (task : TaskState) → IsOrdered s round_count None (Work ticket params race cutoff changes)
     → IsTaskOf s.keeps ticket params cutoff changes task
     → HasBegun (IsSeated (record s { keeps = record s.keeps { ticket = ticket; racing = race; asked = 0 } })
-    (begun tally)) task
-begun_seated s tally ticket params race cutoff changes task h made =
+    (begun round_count)) task
+begun_seated s round_count ticket params race cutoff changes task h made =
     let k : Kept = record s.keeps { ticket = ticket; racing = race; asked = 0 } in
     let now : Engaged = record { task = task; made = 0; asked = 0; racing = race } in
     record {
       now = now;
-      at = seated_next s k tally (begun tally) None (Some now) (Work ticket params race cutoff changes) h.gap
+      at = seated_next s k round_count (begun round_count) None (Some now) (Work ticket params race cutoff changes) h.gap
           (record {
             problem = ap (λ (t : TaskState). t.problem) made.same;
             gap = ap (λ (t : TaskState). t.gap) made.same;
@@ -287,7 +287,7 @@ begun_seated s tally ticket params race cutoff changes task h made =
           h
           (record {
             valid = made.valid;
-            begins = ap (λ (t : TaskState). Busy (basis_of s.keeps) (begun tally)
+            begins = ap (λ (t : TaskState). Busy (basis_of s.keeps) (begun round_count)
                 (record { task = t; made = 0; asked = 0; racing = race })) made.same;
           });
       begun = record { its = refl; made = refl };

@@ -6,7 +6,7 @@ use Rattle.ug_worker.specs.declared.pace.Pace.{Pace}
 use Rattle.ug_worker.specs.declared.pace.Pace.TheVariants as pace
 use Rattle.ug_worker.specs.declared.search.Search.{Search}
 use Rattle.ug_serve.specs.declared.kept.Kept.{Kept}
-use Rattle.ug_worker.specs.declared.tally.Tally.{Tally}
+use Rattle.ug_worker.specs.declared.round_count.RoundCount.{RoundCount}
 use Rattle.ug_serve.specs.declared.served.Served.{Served}
 use Rattle.ug_serve.specs.declared.served.Served.TheVariants.{BadFrame, Ended, LinkFault, Memory}
 use Rattle.ug_serve.specs.declared.server.Post.{Post}
@@ -23,22 +23,22 @@ use Rattle.ug_serve.specs.Serving.{HasServed, IsFront, IsOn, IsOpen, StandsOn, h
 use Rattle.ug_worker.specs.Workers.{HasPaced, IsAtWork}
 use Rattle.ug_serve.proofs.Wires.{said_front}
 
-pub open_stage : (basis : Basis) (tally : Tally) (some : Option Engaged) → IsOpen (stage_of basis tally some)
-open_stage basis tally None = tt
-open_stage basis tally (Some e) = tt
+pub open_stage : (basis : Basis) (round_count : RoundCount) (some : Option Engaged) → IsOpen (stage_of basis round_count some)
+open_stage basis round_count None = tt
+open_stage basis round_count (Some e) = tt
 
 -- ---- the seat between two steps
 
 -- the task that the worker has, and how the seat stands to it
 pub record IsSeatedAs (s : SeatSeen) : Type 0 where
-  pub tally : Tally
+  pub round_count : RoundCount
   pub some : Option Engaged
-  pub seated : IsSeated s tally some
+  pub seated : IsSeated s round_count some
 
-pub work_seated : (s : SeatSeen) (tally : Tally) (search : Option Search) → IsAtWork (IsSeated s) tally search
+pub work_seated : (s : SeatSeen) (round_count : RoundCount) (search : Option Search) → IsAtWork (IsSeated s) round_count search
     → IsSeatedAs s
-work_seated s tally None h = record { tally = tally; some = None; seated = h }
-work_seated s tally (Some search) h = record { tally = search.tally; some = Some h.now; seated = h.at }
+work_seated s round_count None h = record { round_count = round_count; some = None; seated = h }
+work_seated s round_count (Some search) h = record { round_count = search.round_count; some = Some h.now; seated = h.at }
 
 module _ {L : Type 0} (seen : L → LinkSeen) where
   -- ---- a server of its parts
@@ -58,9 +58,9 @@ module _ {L : Type 0} (seen : L → LinkSeen) where
   busy_by None post wire same h = h
   busy_by (Some end) post wire same h =
       let s = seat_seen seen wire post.kept in
-      let w = work_seated s post.worker.tally post.worker.search h in
+      let w = work_seated s post.worker.round_count post.worker.search h in
       subst (λ (e : Option Served).
-      stands_as e (seen wire.link) wire.orders (stage_of (basis_of post.kept) w.tally w.some)) same w.seated.stands
+      stands_as e (seen wire.link) wire.orders (stage_of (basis_of post.kept) w.round_count w.some)) same w.seated.stands
 
   pub busy_server : (post : Post) (wire : Wire L) → IsBusyAs seen wire post
       → is_server seen wire.end (Some post) wire
@@ -70,16 +70,16 @@ module _ {L : Type 0} (seen : L → LinkSeen) where
 
   paced_by : (pace : Pace) (post : Post) (wire : Wire L)
       → HasPaced (IsSeated (seat_seen seen wire post.kept)) (IsOver (seat_seen seen wire post.kept))
-      post.worker.tally post.worker.search pace → is_server seen wire.end (Some post) wire
+      post.worker.round_count post.worker.search pace → is_server seen wire.end (Some post) wire
   paced_by pace.On post wire h = busy_server post wire h
   paced_by pace.Waits post wire (none, at) =
       busy_server post wire
-      (subst (IsAtWork (IsSeated (seat_seen seen wire post.kept)) post.worker.tally) (sym none) at)
+      (subst (IsAtWork (IsSeated (seat_seen seen wire post.kept)) post.worker.round_count) (sym none) at)
   paced_by pace.Over post wire h = ended_server wire.end (Some post) wire h
 
   pub paced_server : (pace : Pace) (post : Post) (wire : Wire L)
       → HasPaced (IsSeated (seat_seen seen wire post.kept)) (IsOver (seat_seen seen wire post.kept))
-      post.worker.tally post.worker.search pace → is_server seen wire.end (Some post) wire
+      post.worker.round_count post.worker.search pace → is_server seen wire.end (Some post) wire
   paced_server pace post wire h = paced_by pace post wire h
 
   -- ---- what the link shows
@@ -88,8 +88,8 @@ module _ {L : Type 0} (seen : L → LinkSeen) where
       → (now : ServerState) × IsOn (seen wire.link) now
   posted_on None wire none h = (record { said = h.said; waiting = wire.orders; stage = Blank }, h.on)
   posted_on (Some post) wire none h =
-      let w = work_seated (seat_seen seen wire post.kept) post.worker.tally post.worker.search h in
-      let stage = stage_of (basis_of post.kept) w.tally w.some in
+      let w = work_seated (seat_seen seen wire post.kept) post.worker.round_count post.worker.search h in
+      let stage = stage_of (basis_of post.kept) w.round_count w.some in
       let on : StandsOn (seen wire.link) wire.orders stage = subst (λ (e : Option Served).
       stands_as e (seen wire.link) wire.orders stage) none w.seated.stands in
       (record { said = on.said; waiting = wire.orders; stage = stage }, on.on)
@@ -113,23 +113,23 @@ module _ {L : Type 0} (seen : L → LinkSeen) where
   rested_by None old new heard none h =
       blank_server new.end new (heard Blank tt
       (subst (λ (e : Option Served). stands_as e (seen old.link) old.orders Blank) (sym none) h))
-  rested_by (Some post) old new heard none h = busy_server post new (rested_work post.worker.tally post.worker.search h)
+  rested_by (Some post) old new heard none h = busy_server post new (rested_work post.worker.round_count post.worker.search h)
     where
-      again : (tally : Tally) (some : Option Engaged) → IsSeated (seat_seen seen old post.kept) tally some
-          → IsSeated (seat_seen seen new post.kept) tally some
-      again tally some s = record {
+      again : (round_count : RoundCount) (some : Option Engaged) → IsSeated (seat_seen seen old post.kept) round_count some
+          → IsSeated (seat_seen seen new post.kept) round_count some
+      again round_count some s = record {
         gap = s.gap;
         agrees = s.agrees;
-        stands = heard (stage_of (basis_of post.kept) tally some) (open_stage (basis_of post.kept) tally some) s.stands;
+        stands = heard (stage_of (basis_of post.kept) round_count some) (open_stage (basis_of post.kept) round_count some) s.stands;
       }
 
-      rested_work : (tally : Tally) (search : Option Search)
-          → IsAtWork (IsSeated (seat_seen seen old post.kept)) tally search
-          → IsAtWork (IsSeated (seat_seen seen new post.kept)) tally search
-      rested_work tally None h = again tally None h
-      rested_work tally (Some search) h = record {
+      rested_work : (round_count : RoundCount) (search : Option Search)
+          → IsAtWork (IsSeated (seat_seen seen old post.kept)) round_count search
+          → IsAtWork (IsSeated (seat_seen seen new post.kept)) round_count search
+      rested_work round_count None h = again round_count None h
+      rested_work round_count (Some search) h = record {
         now = h.now;
-        at = again search.tally (Some h.now) h.at;
+        at = again search.round_count (Some h.now) h.at;
         since = h.since;
         due = h.due;
         racing = h.racing;
@@ -165,7 +165,7 @@ same_by seen other None None v w link orders at end h =
     subst (λ (o : Waiting). StandsOn (other w.link) o Blank) (sym orders)
     (subst (λ (s : LinkSeen). StandsOn s v.orders Blank) (sym link) h)
 same_by seen other None (Some post) v w link orders at end h =
-    subst (λ (s : SeatSeen). IsAtWork (IsSeated s) post.worker.tally post.worker.search)
+    subst (λ (s : SeatSeen). IsAtWork (IsSeated s) post.worker.round_count post.worker.search)
     (sym (same_seat seen other v w post.kept link orders at end)) h
 
 pub same_server : {L M : Type 0} (seen : L → LinkSeen) (other : M → LinkSeen) (a : Server L) (b : Server M)

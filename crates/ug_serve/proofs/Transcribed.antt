@@ -24,9 +24,9 @@ use Rattle.ug_frames.specs.ReportFrames.{IsCarried}
 use Rattle.ug_frames.specs.Honest.{IsInHands}
 use Rattle.ug_base.specs.Tasks.{TaskState, lesser_of}
 use Rattle.ug_base.proofs.Floors.{lesser_is}
-use Rattle.ug_worker.specs.declared.tally.Tally.{Tally}
+use Rattle.ug_worker.specs.declared.round_count.RoundCount.{RoundCount}
 use Rattle.ug_worker.specs.Engagements.{Engaged, IsFoundBy, IsRenewed, IsStatedBy, IsWanted}
-use Rattle.ug_worker.specs.Renewals.{begun, counted}
+use Rattle.ug_worker.specs.Releases.{begun, counted}
 use Rattle.ug_serve.specs.Actions.{Basis, Action, Came, Took, Told, IsBegun, IsDoneTold, IsHandTold, IsSetUp, IsTaken, IsTold}
 use Rattle.ug_serve.specs.Actions.{Stage, Blank, SetUp, Free, Busy, Ending, Over}
 use Rattle.ug_serve.specs.Traces.{IsTrace, ServerState, beginning}
@@ -228,12 +228,12 @@ at_won basis past t racing ticket its a =
     }
 
 -- work was ordered
-at_begun : (basis : Basis) (past : List Action) (tally : Tally) (ticket : Ticket) (params : Params) (race : Bool)
+at_begun : (basis : Basis) (past : List Action) (round_count : RoundCount) (ticket : Ticket) (params : Params) (race : Bool)
     (cutoff : Option ℤ) (changes : List Change) (new : Stage)
-    → IsBegun basis tally ticket params race cutoff changes new
-    → (e : Engaged) × (new ≡ Busy basis (begun tally) e)
+    → IsBegun basis round_count ticket params race cutoff changes new
+    → (e : Engaged) × (new ≡ Busy basis (begun round_count) e)
     × IsAtTask basis (Took (Work ticket params race cutoff changes) ∷ past) e.task e.racing
-at_begun basis past tally ticket params race cutoff changes new h =
+at_begun basis past round_count ticket params race cutoff changes new h =
     let e : Engaged = record {
       task = record {
         problem = basis.problem;
@@ -318,18 +318,18 @@ not_asked : (racing : Bool) (asked : ℕ) → 0 < (if racing then 0 else asked) 
 not_asked true asked due = absurd (omega (arith, due))
 not_asked false asked due = refl
 
-not_racing : (tally : Tally) (e : Engaged) (task : TaskState) → IsWanted e task ⊎ IsRenewed tally e task
+not_racing : (round_count : RoundCount) (e : Engaged) (task : TaskState) → IsWanted e task ⊎ IsRenewed round_count e task
     → e.racing ≡ false
-not_racing tally e task (inl wanted) = not_asked e.racing e.asked wanted.due
-not_racing tally e task (inr renewed) = renewed.due.free
+not_racing round_count e task (inl wanted) = not_asked e.racing e.asked wanted.due
+not_racing round_count e task (inr renewed) = renewed.due.free
 
 -- a box
-at_handed : (basis : Basis) (past : List Action) (tally : Tally) (e f : Engaged) (ticket : Ticket) (number : ℕ)
+at_handed : (basis : Basis) (past : List Action) (round_count : RoundCount) (e f : Engaged) (ticket : Ticket) (number : ℕ)
     (changes : List Change) → IsCarried (Hand ticket number changes)
-    → IsHandTold basis tally e ticket number changes f → IsAtTask basis past e.task e.racing
+    → IsHandTold basis round_count e ticket number changes f → IsAtTask basis past e.task e.racing
     → IsBoxTold basis past ticket number changes
     × IsAtTask basis (Told (Hand ticket number changes) ∷ past) f.task f.racing
-at_handed basis past tally e f ticket number changes carried told at =
+at_handed basis past round_count e f ticket number changes carried told at =
     let h = told.handed in
     let root = root_of basis.problem in
     let quiet = quiet_same h.since.more e.task h.task h.since.quiet in
@@ -339,7 +339,7 @@ at_handed basis past tally e f ticket number changes carried told at =
     let box : told.area ≡ area_by root changes =
     area_only root told.area changes carried.can.fields.rising told.spells in
     let counted = hands_counted root h.task.ticket (told_since past) h.task.handed a.hands in
-    let free : e.racing ≡ false = not_racing tally e h.task h.cause in
+    let free : e.racing ≡ false = not_racing round_count e h.task h.cause in
     let parts : f.task.handed ≡ h.task.handed ++ area_by root changes ∷ [] =
     h.handed.handed ∙ ap (λ (area : List Interval). h.task.handed ++ area ∷ []) box in
     let whole : f.task.whole ≡ box_of basis a.under.work =
@@ -370,10 +370,10 @@ at_handed basis past tally e f ticket number changes carried told at =
     )
 
 -- the boxes left
-at_stated : (basis : Basis) (past : List Action) (tally : Tally) (e f : Engaged) (ticket : Ticket) (nodes : ℕ) (floor : ℤ)
-    → ticket ≡ e.task.ticket → IsStatedBy tally e nodes floor f → IsAtTask basis past e.task e.racing
+at_stated : (basis : Basis) (past : List Action) (round_count : RoundCount) (e f : Engaged) (ticket : Ticket) (nodes : ℕ) (floor : ℤ)
+    → ticket ≡ e.task.ticket → IsStatedBy round_count e nodes floor f → IsAtTask basis past e.task e.racing
     → IsRestTold basis past ticket nodes × IsAtTask basis (Told (State ticket nodes floor) ∷ past) f.task f.racing
-at_stated basis past tally e f ticket nodes floor its h at =
+at_stated basis past round_count e f ticket nodes floor its h at =
     let quiet = quiet_same h.since.more e.task h.task h.since.quiet in
     let a = at_same basis past e.task h.task e.racing quiet at in
     let told = at_more basis past (Told (State ticket nodes floor) ∷ past) (Told (State ticket nodes floor)) h.task
@@ -426,8 +426,8 @@ at_done basis past e ticket cutoff count told at =
 abbrev Holds : List Action → Stage → Type 0
 Holds past Blank = (reports_in past ≡ []) × ((basis : Basis) → ¬ IsSetUpWith past basis)
 Holds past (SetUp basis) = IsSet past basis × (reports_in past ≡ [])
-Holds past (Free basis tally) = IsSet past basis × Contains past (Told Ready)
-Holds past (Busy basis tally e) =
+Holds past (Free basis round_count) = IsSet past basis × Contains past (Told Ready)
+Holds past (Busy basis round_count e) =
     IsSet past basis × Contains past (Told Ready) × IsAtTask basis past e.task e.racing
 Holds past Ending =
     (basis : Basis) × IsSet past basis × Contains past (Told Ready) × Contains past (Took End)
@@ -443,8 +443,8 @@ came_holds past bytes Blank (silent, none) = (
   ],
 )
 came_holds past bytes (SetUp basis) (set, silent) = (set_came past bytes basis set, silent)
-came_holds past bytes (Free basis tally) (set, ready) = (set_came past bytes basis set, behind _ past _ ready)
-came_holds past bytes (Busy basis tally e) (set, ready, at) =
+came_holds past bytes (Free basis round_count) (set, ready) = (set_came past bytes basis set, behind _ past _ ready)
+came_holds past bytes (Busy basis round_count e) (set, ready, at) =
     (set_came past bytes basis set, behind _ past _ ready, at_came basis past bytes e.task e.racing at)
 came_holds past bytes Ending (basis, set, ready, ordered) =
     (basis, set_came past bytes basis set, behind _ past _ ready, behind _ past _ ordered)
@@ -453,78 +453,78 @@ came_holds past bytes Over (basis, set) = (basis, set_came past bytes basis set)
 -- ---- orders
 
 -- an order that changes nothing, where there is no task
-free_on : (past : List Action) (order : Order) (basis : Basis) (tally : Tally) (new : Stage) → is_setup order ≡ 0
-    → new ≡ Free basis tally → Holds past (Free basis tally) → Holds (Took order ∷ past) new
-free_on past order basis tally new other same (set, ready) =
+free_on : (past : List Action) (order : Order) (basis : Basis) (round_count : RoundCount) (new : Stage) → is_setup order ≡ 0
+    → new ≡ Free basis round_count → Holds past (Free basis round_count) → Holds (Took order ∷ past) new
+free_on past order basis round_count new other same (set, ready) =
     subst (Holds (Took order ∷ past)) (sym same) (set_took past order basis other set, behind _ past _ ready)
 
 begun_on : (past : List Action) (ticket : Ticket) (params : Params) (race : Bool) (cutoff : Option ℤ)
-    (changes : List Change) (basis : Basis) (tally : Tally) (new : Stage)
-    → IsBegun basis tally ticket params race cutoff changes new → Holds past (Free basis tally)
+    (changes : List Change) (basis : Basis) (round_count : RoundCount) (new : Stage)
+    → IsBegun basis round_count ticket params race cutoff changes new → Holds past (Free basis round_count)
     → Holds (Took (Work ticket params race cutoff changes) ∷ past) new
-begun_on past ticket params race cutoff changes basis tally new taken (set, ready) =
-    let start = at_begun basis past tally ticket params race cutoff changes new taken in
+begun_on past ticket params race cutoff changes basis round_count new taken (set, ready) =
+    let start = at_begun basis past round_count ticket params race cutoff changes new taken in
     subst (Holds (Took (Work ticket params race cutoff changes) ∷ past)) (sym start.1)
     (set_took past _ basis refl set, behind _ past _ ready, start.2)
 
-free_holds : (past : List Action) (order : Order) (basis : Basis) (tally : Tally) (new : Stage)
-    → IsTaken (Free basis tally) order new → Holds past (Free basis tally) → Holds (Took order ∷ past) new
-free_holds past (Setup gap bytes) basis tally new taken holds = absurd taken
-free_holds past (Work ticket params race cutoff changes) basis tally new taken holds =
-    begun_on past ticket params race cutoff changes basis tally new taken holds
-free_holds past (Incumbent cutoff) basis tally new taken holds = free_on past _ basis tally new refl taken holds
-free_holds past (CollectIn ticket count) basis tally new taken holds = free_on past _ basis tally new refl taken holds
-free_holds past (CollectOut ticket) basis tally new taken holds = free_on past _ basis tally new refl taken holds
-free_holds past (Winner ticket) basis tally new taken holds = free_on past _ basis tally new refl taken holds
-free_holds past (Stop ticket) basis tally new taken holds = free_on past _ basis tally new refl taken holds
-free_holds past End basis tally new taken (set, ready) =
+free_holds : (past : List Action) (order : Order) (basis : Basis) (round_count : RoundCount) (new : Stage)
+    → IsTaken (Free basis round_count) order new → Holds past (Free basis round_count) → Holds (Took order ∷ past) new
+free_holds past (Setup gap bytes) basis round_count new taken holds = absurd taken
+free_holds past (Work ticket params race cutoff changes) basis round_count new taken holds =
+    begun_on past ticket params race cutoff changes basis round_count new taken holds
+free_holds past (Incumbent cutoff) basis round_count new taken holds = free_on past _ basis round_count new refl taken holds
+free_holds past (CollectIn ticket count) basis round_count new taken holds = free_on past _ basis round_count new refl taken holds
+free_holds past (CollectOut ticket) basis round_count new taken holds = free_on past _ basis round_count new refl taken holds
+free_holds past (Winner ticket) basis round_count new taken holds = free_on past _ basis round_count new refl taken holds
+free_holds past (Stop ticket) basis round_count new taken holds = free_on past _ basis round_count new refl taken holds
+free_holds past End basis round_count new taken (set, ready) =
     subst (Holds (Took End ∷ past)) (sym taken)
     (basis, set_took past End basis refl set, behind _ past _ ready, in_front (Took End) past)
 
 -- the task continues
-busy_on : (past : List Action) (order : Order) (basis : Basis) (tally : Tally) (f : Engaged) (new : Stage) → is_setup order ≡ 0
-    → new ≡ Busy basis tally f → IsAtTask basis (Took order ∷ past) f.task f.racing → IsSet past basis
+busy_on : (past : List Action) (order : Order) (basis : Basis) (round_count : RoundCount) (f : Engaged) (new : Stage) → is_setup order ≡ 0
+    → new ≡ Busy basis round_count f → IsAtTask basis (Took order ∷ past) f.task f.racing → IsSet past basis
     → Contains past (Told Ready) → Holds (Took order ∷ past) new
-busy_on past order basis tally f new other same at set ready =
+busy_on past order basis round_count f new other same at set ready =
     subst (Holds (Took order ∷ past)) (sym same) (set_took past order basis other set, behind _ past _ ready, at)
 
 -- it is dropped
-dropped_on : (past : List Action) (order : Order) (basis : Basis) (tally : Tally) (new : Stage) → is_setup order ≡ 0
-    → new ≡ Free basis tally → IsSet past basis → Contains past (Told Ready) → Holds (Took order ∷ past) new
-dropped_on past order basis tally new other same set ready = free_on past order basis tally new other same (set, ready)
+dropped_on : (past : List Action) (order : Order) (basis : Basis) (round_count : RoundCount) (new : Stage) → is_setup order ≡ 0
+    → new ≡ Free basis round_count → IsSet past basis → Contains past (Told Ready) → Holds (Took order ∷ past) new
+dropped_on past order basis round_count new other same set ready = free_on past order basis round_count new other same (set, ready)
 
-busy_holds : (past : List Action) (order : Order) (basis : Basis) (tally : Tally) (e : Engaged) (new : Stage)
-    → IsTaken (Busy basis tally e) order new → Holds past (Busy basis tally e) → Holds (Took order ∷ past) new
-busy_holds past (Setup gap bytes) basis tally e new taken holds = absurd taken
-busy_holds past (Work ticket params race cutoff changes) basis tally e new taken holds = absurd taken
-busy_holds past (Incumbent cutoff) basis tally e new (between, same) (set, ready, at) =
-    busy_on past (Incumbent cutoff) basis tally
+busy_holds : (past : List Action) (order : Order) (basis : Basis) (round_count : RoundCount) (e : Engaged) (new : Stage)
+    → IsTaken (Busy basis round_count e) order new → Holds past (Busy basis round_count e) → Holds (Took order ∷ past) new
+busy_holds past (Setup gap bytes) basis round_count e new taken holds = absurd taken
+busy_holds past (Work ticket params race cutoff changes) basis round_count e new taken holds = absurd taken
+busy_holds past (Incumbent cutoff) basis round_count e new (between, same) (set, ready, at) =
+    busy_on past (Incumbent cutoff) basis round_count
     (record e { task = record e.task { cutoff = Some (lesser_of e.task.cutoff cutoff) } }) new refl same
     (at_lowered basis past e.task e.racing cutoff at) set ready
-busy_holds past (CollectIn ticket count) basis tally e new taken (set, ready, at) =
+busy_holds past (CollectIn ticket count) basis round_count e new taken (set, ready, at) =
     let still = at_took basis past (CollectIn ticket count) e.task e.racing refl at in
     elim taken.done [
-      | inl own ↦ busy_on past _ basis tally (record e { asked = count }) new refl own.1 still set ready
-      | inr other ↦ busy_on past _ basis tally e new refl other.1 still set ready
+      | inl own ↦ busy_on past _ basis round_count (record e { asked = count }) new refl own.1 still set ready
+      | inr other ↦ busy_on past _ basis round_count e new refl other.1 still set ready
     ]
-busy_holds past (CollectOut ticket) basis tally e new taken (set, ready, at) =
+busy_holds past (CollectOut ticket) basis round_count e new taken (set, ready, at) =
     let still = at_took basis past (CollectOut ticket) e.task e.racing refl at in
     elim taken.done [
-      | inl own ↦ busy_on past _ basis tally (record e { asked = 0 }) new refl own.1 still set ready
-      | inr other ↦ busy_on past _ basis tally e new refl other.1 still set ready
+      | inl own ↦ busy_on past _ basis round_count (record e { asked = 0 }) new refl own.1 still set ready
+      | inr other ↦ busy_on past _ basis round_count e new refl other.1 still set ready
     ]
-busy_holds past (Winner ticket) basis tally e new taken (set, ready, at) = elim taken.done [
-  | inl own ↦ busy_on past _ basis tally (record e { racing = false }) new refl own.1
+busy_holds past (Winner ticket) basis round_count e new taken (set, ready, at) = elim taken.done [
+  | inl own ↦ busy_on past _ basis round_count (record e { racing = false }) new refl own.1
       (at_won basis past e.task e.racing ticket own.0 at) set ready
-  | inr other ↦ busy_on past _ basis tally e new refl other.1
+  | inr other ↦ busy_on past _ basis round_count e new refl other.1
       (at_took basis past (Winner ticket) e.task e.racing refl at) set ready
 ]
-busy_holds past (Stop ticket) basis tally e new taken (set, ready, at) = elim taken.done [
-  | inl own ↦ dropped_on past (Stop ticket) basis tally new refl own.1 set ready
-  | inr other ↦ busy_on past _ basis tally e new refl other.1
+busy_holds past (Stop ticket) basis round_count e new taken (set, ready, at) = elim taken.done [
+  | inl own ↦ dropped_on past (Stop ticket) basis round_count new refl own.1 set ready
+  | inr other ↦ busy_on past _ basis round_count e new refl other.1
       (at_took basis past (Stop ticket) e.task e.racing refl at) set ready
 ]
-busy_holds past End basis tally e new (between, same) (set, ready, at) =
+busy_holds past End basis round_count e new (between, same) (set, ready, at) =
     subst (Holds (Took End ∷ past)) (sym same)
     (basis, set_took past End basis refl set, behind _ past _ ready, in_front (Took End) past)
 
@@ -554,41 +554,41 @@ took_holds : (past : List Action) (order : Order) (old new : Stage) → IsTaken 
     → Holds (Took order ∷ past) new
 took_holds past order Blank new taken holds = blank_holds past order new taken holds
 took_holds past order (SetUp basis) new taken holds = absurd taken
-took_holds past order (Free basis tally) new taken holds = free_holds past order basis tally new taken holds
-took_holds past order (Busy basis tally e) new taken holds = busy_holds past order basis tally e new taken holds
+took_holds past order (Free basis round_count) new taken holds = free_holds past order basis round_count new taken holds
+took_holds past order (Busy basis round_count e) new taken holds = busy_holds past order basis round_count e new taken holds
 took_holds past order Ending new taken holds = absurd taken
 took_holds past order Over new taken holds = absurd taken
 
 -- ---- reports
 
 -- the task continues
-told_on : (past : List Action) (report : Report) (basis : Basis) (tally : Tally) (f : Engaged) (new : Stage)
-    → new ≡ Busy basis tally f → IsSaid basis past report → IsAtTask basis (Told report ∷ past) f.task f.racing
+told_on : (past : List Action) (report : Report) (basis : Basis) (round_count : RoundCount) (f : Engaged) (new : Stage)
+    → new ≡ Busy basis round_count f → IsSaid basis past report → IsAtTask basis (Told report ∷ past) f.task f.racing
     → IsSet past basis → Contains past (Told Ready) → Holds (Told report ∷ past) new
-told_on past report basis tally f new same said at set ready =
+told_on past report basis round_count f new same said at set ready =
     subst (Holds (Told report ∷ past)) (sym same) (set_told past report basis said set, behind _ past _ ready, at)
 
-telling_holds : (past : List Action) (report : Report) (basis : Basis) (tally : Tally) (e : Engaged) (new : Stage)
-    → IsCarried report → IsTold (Busy basis tally e) report new → Holds past (Busy basis tally e)
+telling_holds : (past : List Action) (report : Report) (basis : Basis) (round_count : RoundCount) (e : Engaged) (new : Stage)
+    → IsCarried report → IsTold (Busy basis round_count e) report new → Holds past (Busy basis round_count e)
     → Holds (Told report ∷ past) new
-telling_holds past Ready basis tally e new carried told holds = absurd told
-telling_holds past (Solution ticket x) basis tally e new carried (f, its, found, same) (set, ready, at) =
+telling_holds past Ready basis round_count e new carried told holds = absurd told
+telling_holds past (Solution ticket x) basis round_count e new carried (f, its, found, same) (set, ready, at) =
     let so = at_found basis past e f ticket x its found at in
-    told_on past (Solution ticket x) basis tally f new same
+    told_on past (Solution ticket x) basis round_count f new same
     (ready, record { under = under_its basis past e.task.ticket ticket its at.under; feasible = so.0 }) so.1 set ready
-telling_holds past (Hand ticket number changes) basis tally e new carried (f, handed, same) (set, ready, at) =
-    let so = at_handed basis past tally e f ticket number changes carried handed at in
-    told_on past (Hand ticket number changes) basis tally f new same (ready, so.0) so.1 set ready
-telling_holds past (State ticket nodes floor) basis tally e new carried (f, its, stated, same) (set, ready, at) =
-    let so = at_stated basis past tally e f ticket nodes floor its stated at in
-    told_on past (State ticket nodes floor) basis (counted tally) f new same (ready, so.0) so.1 set ready
-telling_holds past (Done ticket cutoff count ending) basis tally e new carried (done, same) (set, ready, at) =
+telling_holds past (Hand ticket number changes) basis round_count e new carried (f, handed, same) (set, ready, at) =
+    let so = at_handed basis past round_count e f ticket number changes carried handed at in
+    told_on past (Hand ticket number changes) basis round_count f new same (ready, so.0) so.1 set ready
+telling_holds past (State ticket nodes floor) basis round_count e new carried (f, its, stated, same) (set, ready, at) =
+    let so = at_stated basis past round_count e f ticket nodes floor its stated at in
+    told_on past (State ticket nodes floor) basis (counted round_count) f new same (ready, so.0) so.1 set ready
+telling_holds past (Done ticket cutoff count ending) basis round_count e new carried (done, same) (set, ready, at) =
     subst (Holds (Told (Done ticket cutoff count ending) ∷ past)) (sym same) (
       set_told past (Done ticket cutoff count ending) basis
           (ready, at_done basis past e ticket cutoff count done at) set,
       behind _ past _ ready,
     )
-telling_holds past Ended basis tally e new carried told holds = absurd told
+telling_holds past Ended basis round_count e new carried told holds = absurd told
 
 -- the first report
 ready_holds : (past : List Action) (report : Report) (basis : Basis) (new : Stage)
@@ -617,9 +617,9 @@ told_holds : (past : List Action) (report : Report) (old new : Stage) → IsCarr
     → Holds past old → Holds (Told report ∷ past) new
 told_holds past report Blank new carried told holds = absurd told
 told_holds past report (SetUp basis) new carried told holds = ready_holds past report basis new told holds
-told_holds past report (Free basis tally) new carried told holds = absurd told
-told_holds past report (Busy basis tally e) new carried told holds =
-    telling_holds past report basis tally e new carried told holds
+told_holds past report (Free basis round_count) new carried told holds = absurd told
+told_holds past report (Busy basis round_count e) new carried told holds =
+    telling_holds past report basis round_count e new carried told holds
 told_holds past report Ending new carried told holds = end_holds past report new told holds
 told_holds past report Over new carried told holds = absurd told
 
@@ -652,8 +652,8 @@ transcript past Blank (silent, none) = record {
   said = λ basis h. absurd (none basis h);
 }
 transcript past (SetUp basis) holds = set_transcript past basis holds.0
-transcript past (Free basis tally) holds = set_transcript past basis holds.0
-transcript past (Busy basis tally e) holds = set_transcript past basis holds.0
+transcript past (Free basis round_count) holds = set_transcript past basis holds.0
+transcript past (Busy basis round_count e) holds = set_transcript past basis holds.0
 transcript past Ending (basis, set, ready, ordered) = set_transcript past basis set
 transcript past Over (basis, set) = set_transcript past basis set
 

@@ -16,9 +16,9 @@ use Rattle.ug_frames.specs.declared.report.Report.{Report}
 use Rattle.ug_frames.specs.declared.report.Report.TheVariants.{Ready, Solution, Hand, State, Done}
 use Rattle.ug_frames.specs.declared.report.Report.TheVariants.{Ended}
 use Rattle.ug_base.specs.Tasks.{TaskState}
-use Rattle.ug_worker.specs.declared.tally.Tally.{Tally}
+use Rattle.ug_worker.specs.declared.round_count.RoundCount.{RoundCount}
 use Rattle.ug_worker.specs.Engagements.{Engaged, IsDoneBy, IsFoundBy, IsHandedBy, IsStatedBy, lowered}
-use Rattle.ug_worker.specs.Renewals.{begun, counted, fresh, usual}
+use Rattle.ug_worker.specs.Releases.{begun, counted, fresh, usual}
 
 -- bytes came; an order was taken, whose frame had come; or a report was sent
 pub data Action : Type 0 where
@@ -37,8 +37,8 @@ pub record Basis : Type 0 where
 pub data Stage : Type 0 where
   Blank : Stage
   SetUp : Basis → Stage
-  Free : Basis → Tally → Stage
-  Busy : Basis → Tally → Engaged → Stage
+  Free : Basis → RoundCount → Stage
+  Busy : Basis → RoundCount → Engaged → Stage
   Ending : Stage
   Over : Stage
 
@@ -65,10 +65,10 @@ pub record IsSetUp (old : Stage) (gap : ℤ) (bytes : List ℕ) (new : Stage) : 
   pub set : new ≡ SetUp (record { problem = problem; gap = gap })
 
 -- an order of work where there is none, of a box below the root
-pub record IsBegun (basis : Basis) (tally : Tally) (ticket : Ticket) (params : Params)
+pub record IsBegun (basis : Basis) (round_count : RoundCount) (ticket : Ticket) (params : Params)
     (race : Bool) (cutoff : Option ℤ) (changes : List Change) (new : Stage) : Type 0 where
   pub valid : AreChangesOf (root_of basis.problem) changes
-  pub begins : new ≡ Busy basis (begun tally) (record {
+  pub begins : new ≡ Busy basis (begun round_count) (record {
     task = task_of basis ticket params cutoff (area_by (root_of basis.problem) changes);
     made = 0;
     asked = 0;
@@ -82,27 +82,27 @@ pub record IsForTask (e : Engaged) (ticket : Ticket) (changed old new : Stage) :
       ⊎ ((ticket ≢ e.task.ticket) × (new ≡ old))
 
 -- what the order does to a task, between two rounds
-abbrev pub IsTakenBusy : Basis → Tally → Engaged → Order → Stage → Type 0
-IsTakenBusy basis tally e (Incumbent cutoff) new = (e.made ≡ 0)
-    × (new ≡ Busy basis tally (record e { task = lowered (Some cutoff) e.task }))
-IsTakenBusy basis tally e (CollectIn ticket count) new =
-    IsForTask e ticket (Busy basis tally (record e { asked = count })) (Busy basis tally e) new
-IsTakenBusy basis tally e (CollectOut ticket) new =
-    IsForTask e ticket (Busy basis tally (record e { asked = 0 })) (Busy basis tally e) new
-IsTakenBusy basis tally e (Winner ticket) new =
-    IsForTask e ticket (Busy basis tally (record e { racing = false })) (Busy basis tally e) new
-IsTakenBusy basis tally e (Stop ticket) new =
-    IsForTask e ticket (Free basis tally) (Busy basis tally e) new
-IsTakenBusy basis tally e End new = (e.made ≡ 0) × (new ≡ Ending)
-IsTakenBusy basis tally e order new = ⊥
+abbrev pub IsTakenBusy : Basis → RoundCount → Engaged → Order → Stage → Type 0
+IsTakenBusy basis round_count e (Incumbent cutoff) new = (e.made ≡ 0)
+    × (new ≡ Busy basis round_count (record e { task = lowered (Some cutoff) e.task }))
+IsTakenBusy basis round_count e (CollectIn ticket count) new =
+    IsForTask e ticket (Busy basis round_count (record e { asked = count })) (Busy basis round_count e) new
+IsTakenBusy basis round_count e (CollectOut ticket) new =
+    IsForTask e ticket (Busy basis round_count (record e { asked = 0 })) (Busy basis round_count e) new
+IsTakenBusy basis round_count e (Winner ticket) new =
+    IsForTask e ticket (Busy basis round_count (record e { racing = false })) (Busy basis round_count e) new
+IsTakenBusy basis round_count e (Stop ticket) new =
+    IsForTask e ticket (Free basis round_count) (Busy basis round_count e) new
+IsTakenBusy basis round_count e End new = (e.made ≡ 0) × (new ≡ Ending)
+IsTakenBusy basis round_count e order new = ⊥
 
 -- what it does where there is no task
-abbrev pub IsTakenFree : Basis → Tally → Order → Stage → Type 0
-IsTakenFree basis tally (Setup gap bytes) new = ⊥
-IsTakenFree basis tally (Work ticket params race cutoff changes) new =
-    IsBegun basis tally ticket params race cutoff changes new
-IsTakenFree basis tally End new = new ≡ Ending
-IsTakenFree basis tally order new = new ≡ Free basis tally
+abbrev pub IsTakenFree : Basis → RoundCount → Order → Stage → Type 0
+IsTakenFree basis round_count (Setup gap bytes) new = ⊥
+IsTakenFree basis round_count (Work ticket params race cutoff changes) new =
+    IsBegun basis round_count ticket params race cutoff changes new
+IsTakenFree basis round_count End new = new ≡ Ending
+IsTakenFree basis round_count order new = new ≡ Free basis round_count
 
 -- what it does as the first one
 abbrev pub IsTakenFirst : Order → Stage → Type 0
@@ -113,18 +113,18 @@ IsTakenFirst order new = ⊥
 -- and Work where there is no task
 abbrev pub IsTaken : Stage → Order → Stage → Type 0
 IsTaken Blank order new = IsTakenFirst order new
-IsTaken (Free basis tally) order new = IsTakenFree basis tally order new
-IsTaken (Busy basis tally e) order new = IsTakenBusy basis tally e order new
+IsTaken (Free basis round_count) order new = IsTakenFree basis round_count order new
+IsTaken (Busy basis round_count e) order new = IsTakenBusy basis round_count e order new
 IsTaken stage order new = ⊥
 
 -- ---- reports
 
 -- a box that is handed, as its changes
-pub record IsHandTold (basis : Basis) (tally : Tally) (e : Engaged) (ticket : Ticket)
+pub record IsHandTold (basis : Basis) (round_count : RoundCount) (e : Engaged) (ticket : Ticket)
     (number : ℕ) (changes : List Change) (f : Engaged) : Type 0 where
   pub area : List Interval
   pub its : ticket ≡ e.task.ticket
-  pub handed : IsHandedBy tally e number area f
+  pub handed : IsHandedBy round_count e number area f
   pub spells : Spells (root_of basis.problem) changes area
 
 -- the end of a task, its cutoff, and how many boxes were handed
@@ -136,17 +136,17 @@ pub record IsDoneTold (e : Engaged) (ticket : Ticket) (cutoff : Option ℤ) (cou
   pub counted : count ≡ length task.handed
 
 -- the reports sent of a task
-abbrev pub IsToldBusy : Basis → Tally → Engaged → Report → Stage → Type 0
-IsToldBusy basis tally e (Solution ticket x) new =
-    (f : Engaged) × (ticket ≡ e.task.ticket) × IsFoundBy e x f × (new ≡ Busy basis tally f)
-IsToldBusy basis tally e (Hand ticket number changes) new =
-    (f : Engaged) × IsHandTold basis tally e ticket number changes f × (new ≡ Busy basis tally f)
-IsToldBusy basis tally e (State ticket nodes floor) new =
-    (f : Engaged) × (ticket ≡ e.task.ticket) × IsStatedBy tally e nodes floor f
-    × (new ≡ Busy basis (counted tally) f)
-IsToldBusy basis tally e (Done ticket cutoff count ending) new =
-    IsDoneTold e ticket cutoff count × (new ≡ Free basis tally)
-IsToldBusy basis tally e report new = ⊥
+abbrev pub IsToldBusy : Basis → RoundCount → Engaged → Report → Stage → Type 0
+IsToldBusy basis round_count e (Solution ticket x) new =
+    (f : Engaged) × (ticket ≡ e.task.ticket) × IsFoundBy e x f × (new ≡ Busy basis round_count f)
+IsToldBusy basis round_count e (Hand ticket number changes) new =
+    (f : Engaged) × IsHandTold basis round_count e ticket number changes f × (new ≡ Busy basis round_count f)
+IsToldBusy basis round_count e (State ticket nodes floor) new =
+    (f : Engaged) × (ticket ≡ e.task.ticket) × IsStatedBy round_count e nodes floor f
+    × (new ≡ Busy basis (counted round_count) f)
+IsToldBusy basis round_count e (Done ticket cutoff count ending) new =
+    IsDoneTold e ticket cutoff count × (new ≡ Free basis round_count)
+IsToldBusy basis round_count e report new = ⊥
 
 abbrev pub IsReadyTold : Basis → Report → Stage → Type 0
 IsReadyTold basis Ready new = new ≡ Free basis (fresh (Some usual))
@@ -159,6 +159,6 @@ IsEndTold report new = ⊥
 -- a report that is due was sent, and what is so then
 abbrev pub IsTold : Stage → Report → Stage → Type 0
 IsTold (SetUp basis) report new = IsReadyTold basis report new
-IsTold (Busy basis tally e) report new = IsToldBusy basis tally e report new
+IsTold (Busy basis round_count e) report new = IsToldBusy basis round_count e report new
 IsTold Ending report new = IsEndTold report new
 IsTold stage report new = ⊥

@@ -9,7 +9,7 @@ use Rattle.ug_base.specs.Tasks.{TaskState}
 use Rattle.ug_stream.specs.Streams.{Waiting}
 use Rattle.ug_serve.specs.declared.served.Served.{Served}
 use Rattle.ug_serve.specs.declared.kept.Kept.{Kept}
-use Rattle.ug_worker.specs.declared.tally.Tally.{Tally}
+use Rattle.ug_worker.specs.declared.round_count.RoundCount.{RoundCount}
 use Rattle.ug_serve.specs.Actions.{Basis, Busy, Free, Stage, task_of}
 use Rattle.ug_problem.specs.Instances.{root_of}
 use Rattle.ug_branch.specs.declared.params.Params.{Params}
@@ -37,9 +37,9 @@ abbrev pub basis_of : Kept → Basis
 basis_of k = record { problem = k.problem; gap = k.gap }
 
 -- with the task, or without one
-abbrev pub stage_of : Basis → Tally → Option Engaged → Stage
-stage_of basis tally None = Free basis tally
-stage_of basis tally (Some e) = Busy basis tally e
+abbrev pub stage_of : Basis → RoundCount → Option Engaged → Stage
+stage_of basis round_count None = Free basis round_count
+stage_of basis round_count (Some e) = Busy basis round_count e
 
 -- what the seat shows: how its service ended, if it has; its link; what waits; what it keeps; and
 -- where the last order began
@@ -51,35 +51,35 @@ pub record SeatSeen : Type 0 where
   pub keeps : Kept
 
 -- the seat has this task, or none, of a worker that made this many rounds
-pub record IsSeated (s : SeatSeen) (tally : Tally) (some : Option Engaged) : Type 0 where
+pub record IsSeated (s : SeatSeen) (round_count : RoundCount) (some : Option Engaged) : Type 0 where
   pub gap : IsGap s.keeps.gap
   pub agrees : agrees s.keeps some
-  pub stands : stands_as s.end s.link s.waiting (stage_of (basis_of s.keeps) tally some)
+  pub stands : stands_as s.end s.link s.waiting (stage_of (basis_of s.keeps) round_count some)
 
 -- its service has ended
 abbrev pub IsOver : SeatSeen → Type 0
 IsOver s = has_ended s.end s.link
 
 -- an order came next at the seat that has this task, or none
-pub record IsOrdered (s : SeatSeen) (tally : Tally) (some : Option Engaged) (order : Order)
+pub record IsOrdered (s : SeatSeen) (round_count : RoundCount) (some : Option Engaged) (order : Order)
     : Type 0 where
   pub gap : IsGap s.keeps.gap
   pub agrees : agrees s.keeps some
   pub on : s.end ≡ None
-  pub next : HasNext s.link s.waiting (stage_of (basis_of s.keeps) tally some) order s.at
+  pub next : HasNext s.link s.waiting (stage_of (basis_of s.keeps) round_count some) order s.at
 
 -- the task continues, as it was but for a cutoff
-pub record IsGoing (s : SeatSeen) (tally : Tally) (task : TaskState) (cutoff : Option ℤ)
+pub record IsGoing (s : SeatSeen) (round_count : RoundCount) (task : TaskState) (cutoff : Option ℤ)
     : Type 0 where
   pub now : Engaged
-  pub seated : IsSeated s tally (Some now)
+  pub seated : IsSeated s round_count (Some now)
   pub made : now.made ≡ 0
   pub its : now.task ≡ lowered cutoff task
 
 -- an order was obeyed between two rounds: the task continues, or it is dropped
-abbrev pub IsObeyed : Bool → SeatSeen → Tally → TaskState → Option ℤ → Type 0
-IsObeyed true s tally task cutoff = IsGoing s tally task cutoff
-IsObeyed false s tally task cutoff = IsSeated s tally None
+abbrev pub IsObeyed : Bool → SeatSeen → RoundCount → TaskState → Option ℤ → Type 0
+IsObeyed true s round_count task cutoff = IsGoing s round_count task cutoff
+IsObeyed false s round_count task cutoff = IsSeated s round_count None
 
 -- the task that an order of work begins, of changes that are those of a box below the root
 pub record IsTaskOf (k : Kept) (ticket : Ticket) (params : Params) (cutoff : Option ℤ)

@@ -26,7 +26,7 @@ module _ {L : Type 0} (seen : L → LinkSeen) where
   -- its seat, and what it keeps, stand to its task, if it has one
   abbrev pub IsBusyAs : Wire L → Post → Type 0
   IsBusyAs wire post =
-      IsAtWork (IsSeated (seat_seen seen wire post.kept)) post.worker.tally post.worker.search
+      IsAtWork (IsSeated (seat_seen seen wire post.kept)) post.worker.round_count post.worker.search
 
   -- the problem is there, or nothing was ordered yet
   abbrev pub is_posted : Option Post → Wire L → Type 0

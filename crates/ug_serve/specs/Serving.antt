@@ -18,8 +18,8 @@ use Rattle.ug_serve.specs.declared.served.Served.TheVariants.{BadFrame, Ended, L
 abbrev pub IsOpen : Stage → Type 0
 IsOpen Blank = Unit {0}
 IsOpen (SetUp basis) = Unit {0}
-IsOpen (Free basis tally) = Unit {0}
-IsOpen (Busy basis tally e) = Unit {0}
+IsOpen (Free basis round_count) = Unit {0}
+IsOpen (Busy basis round_count e) = Unit {0}
 IsOpen Ending = ⊥
 IsOpen Over = ⊥
 

@@ -6,7 +6,7 @@ ghost use Rattle.ug_problem.specs.Instances.{root_of};
 ghost use Rattle.ug_nodes.specs.Changes.{IsAreaRefused};
 ghost use Rattle.ug_base.specs.Tasks.{TaskState, lesser_of};
 ghost use Rattle.ug_frames.specs.declared.order.Order.TheVariants.{Work};
-ghost use Rattle.ug_worker.specs.declared.tally.Tally.{Tally};
+ghost use Rattle.ug_worker.specs.declared.round_count.RoundCount.{RoundCount};
 ghost use Rattle.ug_worker.specs.Engagements.{Engaged, HasTaken, IsReplied, lowered};
 ghost use Rattle.ug_serve.specs.Seats.{IsGoing, IsObeyed, IsOrdered, IsOver, IsSeated, IsTaskOf, basis_of};
 ghost use Rattle.ug_serve.specs.Actions.{task_of};
@@ -37,9 +37,9 @@ impl<L: Link + Drop> LinkSeat<L> {
 
     // No order is there: more may come, or the service has ended.
     fn idle(&self) -> Took
-        ensures { (tally : Tally)
-            → IsSeated (seat_seen L.seen self.now.wire self.now.kept) tally None
-            → HasTaken (IsSeated (seat_seen L.seen self.now.wire self.now.kept)) tally
+        ensures { (round_count : RoundCount)
+            → IsSeated (seat_seen L.seen self.now.wire self.now.kept) round_count None
+            → HasTaken (IsSeated (seat_seen L.seen self.now.wire self.now.kept)) round_count
             (IsOver (seat_seen L.seen self.now.wire self.now.kept)) result }
     {
         match self.wire.end {
@@ -50,13 +50,13 @@ impl<L: Link + Drop> LinkSeat<L> {
 
     // Does as is ordered where there is no task: takes a task, or ends, or continues.
     fn receive(&mut self, order: Order) -> Option<Took>
-        requires { (tally : Tally)
-            × IsOrdered (seat_seen L.seen self.old.wire self.old.kept) tally None order }
-        ensures { (tally : Tally)
-            → IsOrdered (seat_seen L.seen self.old.wire self.old.kept) tally None order
+        requires { (round_count : RoundCount)
+            × IsOrdered (seat_seen L.seen self.old.wire self.old.kept) round_count None order }
+        ensures { (round_count : RoundCount)
+            → IsOrdered (seat_seen L.seen self.old.wire self.old.kept) round_count None order
             → MatchOption result
-            (IsSeated (seat_seen L.seen self.new.wire self.new.kept) tally None)
-            (HasTaken (IsSeated (seat_seen L.seen self.new.wire self.new.kept)) tally
+            (IsSeated (seat_seen L.seen self.new.wire self.new.kept) round_count None)
+            (HasTaken (IsSeated (seat_seen L.seen self.new.wire self.new.kept)) round_count
             (IsOver (seat_seen L.seen self.new.wire self.new.kept))) }
     {
         match order {
@@ -92,13 +92,13 @@ impl<L: Link + Drop> LinkSeat<L> {
         cutoff: Option<i128>,
         changes: &Changes,
     ) -> Took
-        requires { (tally : Tally)
-            × IsOrdered (seat_seen L.seen self.old.wire self.old.kept) tally None
+        requires { (round_count : RoundCount)
+            × IsOrdered (seat_seen L.seen self.old.wire self.old.kept) round_count None
             (Work ticket params race cutoff changes.now) }
-        ensures { (tally : Tally)
-            → IsOrdered (seat_seen L.seen self.old.wire self.old.kept) tally None
+        ensures { (round_count : RoundCount)
+            → IsOrdered (seat_seen L.seen self.old.wire self.old.kept) round_count None
             (Work ticket params race cutoff changes.now)
-            → HasTaken (IsSeated (seat_seen L.seen self.new.wire self.new.kept)) tally
+            → HasTaken (IsSeated (seat_seen L.seen self.new.wire self.new.kept)) round_count
             (IsOver (seat_seen L.seen self.new.wire self.new.kept)) result }
     {
         match self.task(ticket, params, cutoff, changes) {
@@ -178,12 +178,13 @@ impl<L: Link + Drop> LinkSeat<L> {
     // Obeys an order between two rounds, which may lower the cutoff. False where the task is
     // dropped.
     fn obey(&mut self, order: Order, cutoff: &mut Option<i128>) -> bool
-        requires { (tally : Tally) × (e : Engaged) × (e.made ≡ 0)
-            × IsOrdered (seat_seen L.seen self.old.wire self.old.kept) tally (Some e) order }
-        ensures obeyed { (tally : Tally) (e : Engaged) (task : TaskState) → e.made ≡ 0
-            → IsOrdered (seat_seen L.seen self.old.wire self.old.kept) tally (Some e) order
+        requires { (round_count : RoundCount) × (e : Engaged) × (e.made ≡ 0)
+            × IsOrdered (seat_seen L.seen self.old.wire self.old.kept) round_count (Some e) order }
+        ensures obeyed { (round_count : RoundCount) (e : Engaged) (task : TaskState) → e.made ≡ 0
+            → IsOrdered (seat_seen L.seen self.old.wire self.old.kept) round_count (Some e) order
             → e.task ≡ lowered cutoff.old task
-            → IsObeyed result (seat_seen L.seen self.new.wire self.new.kept) tally task cutoff.new }
+            → IsObeyed result
+            (seat_seen L.seen self.new.wire self.new.kept) round_count task cutoff.new }
         ensures small { IsSmallCutoff cutoff.old → IsSmallCutoff cutoff.new }
     {
         match order {
@@ -222,9 +223,10 @@ impl<L: Link + Drop> LinkSeat<L> {
     // The task continues under the cutoff, unless the service has ended.
     fn reply(&self, cutoff: Option<i128>) -> Reply
         ensures small { result.cutoff ≡ cutoff }
-        ensures replied { (tally : Tally) (task : TaskState)
-            → IsGoing (seat_seen L.seen self.now.wire self.now.kept) tally task cutoff
-            → IsReplied (IsSeated (seat_seen L.seen self.now.wire self.now.kept) tally) task result }
+        ensures replied { (round_count : RoundCount) (task : TaskState)
+            → IsGoing (seat_seen L.seen self.now.wire self.now.kept) round_count task cutoff
+            → IsReplied (IsSeated
+            (seat_seen L.seen self.now.wire self.now.kept) round_count) task result }
     {
         let collect = self.kept.asked;
         let racing = self.kept.racing;
@@ -249,7 +251,8 @@ impl<L: Link + Drop> Seat for LinkSeat<L> {
     ghost use Rattle.ug_serve.specs.Seats.{IsOver, IsSeated};
     ghost use Rattle.ug_serve.specs.SeatViews.{seat_seen};
 
-    ghost at = { λ seat tally some. IsSeated (seat_seen L.seen seat.wire seat.kept) tally some };
+    ghost at = { λ seat round_count some. IsSeated
+        (seat_seen L.seen seat.wire seat.kept) round_count some };
 
     ghost over = { λ seat. IsOver (seat_seen L.seen seat.wire seat.kept) };
 

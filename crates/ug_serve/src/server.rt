@@ -6,7 +6,7 @@ ghost use Rattle.ug_frames.specs.declared.order.Order.TheVariants.{Setup};
 ghost use Rattle.ug_serve.specs.Actions.{Blank, SetUp};
 ghost use Rattle.ug_serve.specs.Traces.{IsFresh};
 ghost use Rattle.ug_serve.specs.Serving.{HasNext, has_ended, stands_as};
-ghost use Rattle.ug_worker.specs.Renewals.{fresh, usual};
+ghost use Rattle.ug_worker.specs.Releases.{fresh, usual};
 ghost use Rattle.ug_serve.specs.SeatViews.{seat_seen};
 ghost use Rattle.ug_serve.specs.Seats.{IsSeated};
 ghost use Rattle.ug_serve.specs.Servers.{HasMoved, IsBusyAs, IsServer, is_server};
@@ -22,7 +22,7 @@ use ug_lists::Bytes;
 use ug_nodes::Ticket;
 use ug_problem::{Problem, Shared};
 use ug_records::{RecordError, from_record};
-use ug_worker::{Pace, Renewal, Worker};
+use ug_worker::{Pace, ReleasePolicy, Worker};
 
 /// How a worker at a link continues behind a step.
 #[derive(Clone, Copy, PartialEq, Eq)]
@@ -238,7 +238,7 @@ fn seated<L: Link + Drop>(alloc: Global, wire: Wire<L>, kept: Kept) -> Moved<L>
     requires { IsSeated (seat_seen L.seen wire kept) (fresh (Some usual)) None }
     ensures { HasMoved L.seen result }
 {
-    let worker = Worker::new(Some(Renewal::usual()));
+    let worker = Worker::new(Some(ReleasePolicy::usual()));
     posted(alloc, wire, Post { kept, worker }, false)
 }
 

@@ -4,8 +4,8 @@ use Rattle.std.specs.Prelude.{slice_get}
 use Rattle.std.proofs.lemmas.List.{length-append}
 use Rattle.std.proofs.lemmas.Option.{none-some, same_Some}
 use Rattle.std.specs.declared.thread.PromisedHandle.{PromisedHandle}
-use Rattle.ug_worker.specs.declared.tally.Renewal.{Renewal}
-use Rattle.ug_worker.specs.Renewals.{fresh, usual}
+use Rattle.ug_worker.specs.declared.round_count.ReleasePolicy.{ReleasePolicy}
+use Rattle.ug_worker.specs.Releases.{fresh, usual}
 use Rattle.ug_desk.specs.Passes.{HasLeft, PassState, width_of}
 use Rattle.ug_desk.proofs.Seating.{each_more, next_at}
 use Rattle.ug_threads.specs.declared.crew.Back.{Back}
@@ -255,11 +255,11 @@ among_last handles back r none (inr there) = there
 
 -- ---- who sits at a pass
 
-pub sat_at : (table : Table) (p : PassState) (renewal : Option Renewal)
-    → IfSome renewal (λ rule. rule ≡ usual) → IsPassAt table p
-    → IsSeated table.desk.now p (record { count = 0; racing = true }) (fresh renewal) None
-sat_at table p renewal is at =
-    record { lock = at.lock; trace = come_sat renewal p is at.trace; its = tt }
+pub sat_at : (table : Table) (p : PassState) (policy : Option ReleasePolicy)
+    → IfSome policy (λ rule. rule ≡ usual) → IsPassAt table p
+    → IsSeated table.desk.now p (record { count = 0; racing = true }) (fresh policy) None
+sat_at table p policy is at =
+    record { lock = at.lock; trace = come_sat policy p is at.trace; its = tt }
 
 pub gone_at : (table : Table) (p q : PassState) → HasLeft p q → IsPassAt table p → IsPassAt table q
 gone_at table p q gone at = record {

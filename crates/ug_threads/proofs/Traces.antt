@@ -30,10 +30,10 @@ use Rattle.ug_problem.specs.Instances.{Instance, bounds_of}
 use Rattle.ug_rules.specs.declared.heard.Heard.{Heard}
 use Rattle.ug_rules.specs.declared.heard.Heard.TheVariants.{Kept, Stale, Early, Broken, NotBetter, InRace, Again, Gap, Outside, Unbacked, Short, Memory}
 use Rattle.ug_worker.proofs.Quiet.{handed_below, quiet_same}
-use Rattle.ug_worker.specs.declared.tally.Renewal.{Renewal}
-use Rattle.ug_worker.specs.declared.tally.Tally.{Tally}
+use Rattle.ug_worker.specs.declared.round_count.ReleasePolicy.{ReleasePolicy}
+use Rattle.ug_worker.specs.declared.round_count.RoundCount.{RoundCount}
 use Rattle.ug_worker.specs.Engagements.{Engaged, HasTaken, IsFoundBy, IsDoneBy, IsHandedBy, IsReplied, IsSince, IsStatedBy, is_replied, Stands, lowered, under}
-use Rattle.ug_worker.specs.Renewals.{begun, counted, fresh, usual}
+use Rattle.ug_worker.specs.Releases.{begun, counted, fresh, usual}
 use Rattle.ug_desk.specs.Entries.{LockedState}
 use Rattle.ug_desk.specs.Histories.{Call, Entry, copied, ended, handed, left, offered, stated, taken}
 use Rattle.ug_desk.specs.Dones.{IsOfTicket}
@@ -56,7 +56,7 @@ pub read_less : (o : Opening) (less more : ℕ) (actions : List Action) → less
 read_less o less more [] few all = tt
 read_less o less more (Read cutoff ∷ past) few all =
     (omega (arith, few, all.0), read_less o less more past few all.1)
-read_less o less more (Sat renewal ∷ past) few all = read_less o less more past few all
+read_less o less more (Sat policy ∷ past) few all = read_less o less more past few all
 read_less o less more (Called call ∷ past) few all = read_less o less more past few all
 read_less o less more (EndedInVain task seen ∷ past) few all = read_less o less more past few all
 read_less o less more (LeftInVain seen ∷ past) few all = read_less o less more past few all
@@ -73,7 +73,7 @@ within_more a b (EndedInVain task seen ∷ past) more all =
     (begins_more seen a b all.0 more, within_more a b past more all.1)
 within_more a b (LeftInVain seen ∷ past) more all =
     (begins_more seen a b all.0 more, within_more a b past more all.1)
-within_more a b (Sat renewal ∷ past) more all = within_more a b past more all
+within_more a b (Sat policy ∷ past) more all = within_more a b past more all
 within_more a b (Called call ∷ past) more all = within_more a b past more all
 within_more a b (Read cutoff ∷ past) more all = within_more a b past more all
 
@@ -199,13 +199,13 @@ come_still after p q stage h come o opened =
     }
 
 -- a worker sits down
-pub come_sat : (renewal : Option Renewal) (p : PassState) → IfSome renewal (λ rule. rule ≡ usual)
-    → Reaches p Away → Reaches p (Free (fresh renewal))
-come_sat renewal p is come o opened =
+pub come_sat : (policy : Option ReleasePolicy) (p : PassState) → IfSome policy (λ rule. rule ≡ usual)
+    → Reaches p Away → Reaches p (Free (fresh policy))
+come_sat policy p is come o opened =
     let at = come o opened in
     record {
       trace = record {
-        actions = Sat renewal ∷ at.trace.actions;
+        actions = Sat policy ∷ at.trace.actions;
         lead = (Away, at.trace.lead, refl, is);
         calls = at.trace.calls;
         within = at.trace.within;
@@ -238,10 +238,10 @@ read_word floor word found None small is from = small
 read_word floor word found (Some cutoff) small is from =
     said_word floor cutoff word small (sym is ∙ from)
 
-pub come_read : (found kept : Option ℤ) (p q : PassState) (tally : Tally) (e : Engaged) → HasLooked found p q
-    → IfSome kept (λ c. found ≡ Some c) → e.made ≡ 0 → Reaches p (Busy tally e)
-    → Reaches q (Busy tally (under kept e))
-come_read found kept p q tally e h from made come o opened =
+pub come_read : (found kept : Option ℤ) (p q : PassState) (round_count : RoundCount) (e : Engaged) → HasLooked found p q
+    → IfSome kept (λ c. found ≡ Some c) → e.made ≡ 0 → Reaches p (Busy round_count e)
+    → Reaches q (Busy round_count (under kept e))
+come_read found kept p q round_count e h from made come o opened =
     let also = sym (ap (λ (k : PassState). k.opening) h.same) ∙ opened in
     let at = come o also in
     let c = at.trace in
@@ -250,8 +250,8 @@ come_read found kept p q tally e h from made come o opened =
     record {
       trace = record {
         actions = Read kept ∷ c.actions;
-        lead = subst (λ (k : PassState). LeadTo o k.rank (Read kept ∷ c.actions) (Busy tally (under kept e)))
-            (sym h.same) (Busy tally e, c.lead, (made, refl), tt);
+        lead = subst (λ (k : PassState). LeadTo o k.rank (Read kept ∷ c.actions) (Busy round_count (under kept e)))
+            (sym h.same) (Busy round_count e, c.lead, (made, refl), tt);
         calls = ap (λ (k : PassState). entries_in k.rank c.actions) h.same
             ∙ (c.calls ∙ sym (ap (λ (k : PassState). k.mine) h.same));
         within = subst (λ (k : PassState). AreWithin k.seen c.actions) (sym h.same) c.within;
@@ -264,16 +264,16 @@ come_read found kept p q tally e h from made come o opened =
 
 -- ---- snapshots
 
-copies : (tally : Tally) (some : Option Engaged) → NextState (stage_of tally some) (Called copied) (stage_of tally some)
-copies tally None = refl
-copies tally (Some e) = refl
+copies : (round_count : RoundCount) (some : Option Engaged) → NextState (stage_of round_count some) (Called copied) (stage_of round_count some)
+copies round_count None = refl
+copies round_count (Some e) = refl
 
 pub stayed_none : (p : PassState) → HasStayed p p
 stayed_none p = record {
   lock = refl;
   rank = refl;
   opening = refl;
-  trace = λ tally some come. come;
+  trace = λ round_count some come. come;
   known = λ cutoff known. known;
 }
 
@@ -282,8 +282,8 @@ stayed_once after p q h = record {
   lock = h.same.0;
   rank = h.same.1;
   opening = h.same.2;
-  trace = λ tally some come. come_called copied after p q (stage_of tally some) (stage_of tally some) h
-      (copies tally some) (λ o past opened read. tt) come;
+  trace = λ round_count some come. come_called copied after p q (stage_of round_count some) (stage_of round_count some) h
+      (copies round_count some) (λ o past opened read. tt) come;
   known = λ cutoff known. known_on (Some copied) after p q cutoff h known;
 }
 
@@ -292,7 +292,7 @@ stayed_not after p q h = record {
   lock = h.same.0;
   rank = h.same.1;
   opening = h.same.2;
-  trace = λ tally some come. come_still after p q (stage_of tally some) h come;
+  trace = λ round_count some come. come_still after p q (stage_of round_count some) h come;
   known = λ cutoff known. known_on None after p q cutoff h known;
 }
 
@@ -301,7 +301,7 @@ stayed_then p q s one two = record {
   lock = two.lock ∙ one.lock;
   rank = two.rank ∙ one.rank;
   opening = two.opening ∙ one.opening;
-  trace = λ tally some come. two.trace tally some (one.trace tally some come);
+  trace = λ round_count some come. two.trace round_count some (one.trace round_count some come);
   known = λ cutoff known. two.known cutoff (one.known cutoff known);
 }
 
@@ -352,11 +352,11 @@ its_on : (p q : PassState) (asked : Asked) (some : Option Engaged) → q.opening
 its_on p q asked None same known h = tt
 its_on p q asked (Some e) same known h = of_desk_on p q asked e same known h
 
-pub stay_seated : (d : Desk) (p q : PassState) (asked : Asked) (tally : Tally) (some : Option Engaged)
-    → HasStayed p q → IsSeated d p asked tally some → IsSeated d q asked tally some
-stay_seated d p q asked tally some stayed s = record {
+pub stay_seated : (d : Desk) (p q : PassState) (asked : Asked) (round_count : RoundCount) (some : Option Engaged)
+    → HasStayed p q → IsSeated d p asked round_count some → IsSeated d q asked round_count some
+stay_seated d p q asked round_count some stayed s = record {
   lock = stayed.lock ∙ s.lock;
-  trace = stayed.trace tally some s.trace;
+  trace = stayed.trace round_count some s.trace;
   its = its_on p q asked some stayed.opening stayed.known s.its;
 }
 
@@ -382,66 +382,66 @@ abbrev begun_asked : Asked
 begun_asked = record { count = 0; racing = true }
 
 -- work was taken
-busy_with : (d : Desk) (task : TaskState) (after : LockedState) (p q : PassState) (asked : Asked) (tally : Tally)
-    → HasCalledAt (Some (taken (Ok (Work task)))) after p q → IsSeated d p asked tally None
-    → IsSeated d q begun_asked (begun tally) (Some (taken_up task))
-busy_with d task after p q asked tally h s = record {
+busy_with : (d : Desk) (task : TaskState) (after : LockedState) (p q : PassState) (asked : Asked) (round_count : RoundCount)
+    → HasCalledAt (Some (taken (Ok (Work task)))) after p q → IsSeated d p asked round_count None
+    → IsSeated d q begun_asked (begun round_count) (Some (taken_up task))
+busy_with d task after p q asked round_count h s = record {
   lock = h.same.0 ∙ s.lock;
-  trace = come_called (taken (Ok (Work task))) after p q (Free tally) (Busy (begun tally) (taken_up task)) h
+  trace = come_called (taken (Ok (Work task))) after p q (Free round_count) (Busy (begun round_count) (taken_up task)) h
       refl (λ o past opened read. tt) s.trace;
   its = taken_of task after p q h;
 }
 
-pub seat_taken : (d : Desk) (took : Result Took Untaken) (p q : PassState) (asked : Asked) (tally : Tally)
-    → HasTakenIn took p q → IsSeated d p asked tally None
-    → IfOk took (HasTaken (IsSeated d q begun_asked) tally (IsLeft d q))
-seat_taken d (Ok (Work task)) p q asked tally (after, h) s = record {
+pub seat_taken : (d : Desk) (took : Result Took Untaken) (p q : PassState) (asked : Asked) (round_count : RoundCount)
+    → HasTakenIn took p q → IsSeated d p asked round_count None
+    → IfOk took (HasTaken (IsSeated d q begun_asked) round_count (IsLeft d q))
+seat_taken d (Ok (Work task)) p q asked round_count (after, h) s = record {
   now = taken_up task;
-  at = busy_with d task after p q asked tally h s;
+  at = busy_with d task after p q asked round_count h s;
   begun = record { its = refl; made = refl };
 }
-seat_taken d (Ok Wait) p q asked tally (after, h) s = record {
+seat_taken d (Ok Wait) p q asked round_count (after, h) s = record {
   lock = h.same.0 ∙ s.lock;
-  trace = come_called (taken (Ok Wait)) after p q (Free tally) (Free tally) h refl (λ o past opened read. tt) s.trace;
+  trace = come_called (taken (Ok Wait)) after p q (Free round_count) (Free round_count) h refl (λ o past opened read. tt) s.trace;
   its = tt;
 }
-seat_taken d (Ok Over) p q asked tally (after, h) s = record {
+seat_taken d (Ok Over) p q asked round_count (after, h) s = record {
   lock = h.same.0 ∙ s.lock;
-  trace = come_called (taken (Ok Over)) after p q (Free tally) Away h refl (λ o past opened read. tt) s.trace;
+  trace = come_called (taken (Ok Over)) after p q (Free round_count) Away h refl (λ o past opened read. tt) s.trace;
 }
-seat_taken d (Err end) p q asked tally h s = tt
+seat_taken d (Err end) p q asked round_count h s = tt
 
 -- nothing was taken
-untaken : (d : Desk) (end : Untaken) (after : LockedState) (p q : PassState) (asked : Asked) (tally : Tally)
-    → HasCalledAt (Some (taken (Err end))) after p q → IsSeated d p asked tally None
+untaken : (d : Desk) (end : Untaken) (after : LockedState) (p q : PassState) (asked : Asked) (round_count : RoundCount)
+    → HasCalledAt (Some (taken (Err end))) after p q → IsSeated d p asked round_count None
     → Stands (IsSeated d q begun_asked)
-untaken d end after p q asked tally h s = (
-  tally,
+untaken d end after p q asked round_count h s = (
+  round_count,
   None,
   record {
     lock = h.same.0 ∙ s.lock;
-    trace = come_called (taken (Err end)) after p q (Free tally) (Free tally) h refl (λ o past opened read. tt) s.trace;
+    trace = come_called (taken (Err end)) after p q (Free round_count) (Free round_count) h refl (λ o past opened read. tt) s.trace;
     its = tt;
   },
 )
 
 -- if memory ran out for the task of what was taken, it is the worker's all the same
-pub seat_untaken : (d : Desk) (took : Result Took Untaken) (p q : PassState) (asked : Asked) (tally : Tally)
-    → HasTakenIn took p q → IsSeated d p asked tally None → OnErr took (Stands (IsSeated d q begun_asked))
-seat_untaken d (Ok took) p q asked tally h s = tt
-seat_untaken d (Err (Deciding stood)) p q asked tally (after, h) s =
-    untaken d (Deciding stood) after p q asked tally h s
-seat_untaken d (Err Making) p q asked tally (inl (after, h)) s = untaken d Making after p q asked tally h s
-seat_untaken d (Err Making) p q asked tally (inr (task, (after, h))) s =
-    (begun tally, Some (taken_up task), busy_with d task after p q asked tally h s)
+pub seat_untaken : (d : Desk) (took : Result Took Untaken) (p q : PassState) (asked : Asked) (round_count : RoundCount)
+    → HasTakenIn took p q → IsSeated d p asked round_count None → OnErr took (Stands (IsSeated d q begun_asked))
+seat_untaken d (Ok took) p q asked round_count h s = tt
+seat_untaken d (Err (Deciding stood)) p q asked round_count (after, h) s =
+    untaken d (Deciding stood) after p q asked round_count h s
+seat_untaken d (Err Making) p q asked round_count (inl (after, h)) s = untaken d Making after p q asked round_count h s
+seat_untaken d (Err Making) p q asked round_count (inr (task, (after, h))) s =
+    (begun round_count, Some (taken_up task), busy_with d task after p q asked round_count h s)
 
 -- what was asked still is
-pub seat_looked : (d : Desk) (p : PassState) (asked : Asked) (tally : Tally) (e : Engaged) (reply : Reply)
-    → IsSeated d p asked tally (Some e) → e.made ≡ 0
+pub seat_looked : (d : Desk) (p : PassState) (asked : Asked) (round_count : RoundCount) (e : Engaged) (reply : Reply)
+    → IsSeated d p asked round_count (Some e) → e.made ≡ 0
     → reply ≡ record { cutoff = None; collect = asked.count; stop = false; racing = asked.racing }
-    → IsReplied (IsSeated d p asked tally) e.task reply
-seat_looked d p asked tally e reply s made is =
-    subst (IsReplied (IsSeated d p asked tally) e.task) (sym is) (record {
+    → IsReplied (IsSeated d p asked round_count) e.task reply
+seat_looked d p asked round_count e reply s made is =
+    subst (IsReplied (IsSeated d p asked round_count) e.task) (sym is) (record {
       now = e;
       at = s;
       made = made;
@@ -451,12 +451,12 @@ seat_looked d p asked tally e reply s made is =
     })
 
 -- a cutoff that was read
-pub seat_read : (d : Desk) (found kept : Option ℤ) (p q : PassState) (asked : Asked) (tally : Tally) (e : Engaged)
-    → HasLooked found p q → IfSome kept (λ c. found ≡ Some c) → IsSeated d p asked tally (Some e)
-    → e.made ≡ 0 → IsSeated d q asked tally (Some (under kept e))
-seat_read d found kept p q asked tally e h from s made = record {
+pub seat_read : (d : Desk) (found kept : Option ℤ) (p q : PassState) (asked : Asked) (round_count : RoundCount) (e : Engaged)
+    → HasLooked found p q → IfSome kept (λ c. found ≡ Some c) → IsSeated d p asked round_count (Some e)
+    → e.made ≡ 0 → IsSeated d q asked round_count (Some (under kept e))
+seat_read d found kept p q asked round_count e h from s made = record {
   lock = ap (λ (k : PassState). k.lock) h.same ∙ s.lock;
-  trace = come_read found kept p q tally e h from made s.trace;
+  trace = come_read found kept p q round_count e h from made s.trace;
   its = record {
     problem = λ o opened. of_problem kept e.task ∙ s.its.problem o (sym (ap (λ (k : PassState). k.opening) h.same) ∙ opened);
     gap = λ o opened. of_gap kept e.task ∙ s.its.gap o (sym (ap (λ (k : PassState). k.opening) h.same) ∙ opened);
@@ -481,35 +481,35 @@ quiet_of p asked e task count since h =
       racing = h.racing;
     }
 
-point_well : (tally : Tally) (f : Engaged) (answer : Heard) → IsWellOffered answer
-    → behind_point tally f answer ≡ Busy tally f
-point_well tally f Kept well = refl
-point_well tally f (NotBetter was given_) well = refl
-point_well tally f Stale well = absurd well
-point_well tally f Early well = absurd well
-point_well tally f (Broken first) well = absurd well
-point_well tally f InRace well = absurd well
-point_well tally f Again well = absurd well
-point_well tally f (Gap want got) well = absurd well
-point_well tally f (Outside column) well = absurd well
-point_well tally f (Unbacked cutoff incumbent) well = absurd well
-point_well tally f (Short said was) well = absurd well
-point_well tally f Memory well = absurd well
+point_well : (round_count : RoundCount) (f : Engaged) (answer : Heard) → IsWellOffered answer
+    → behind_point round_count f answer ≡ Busy round_count f
+point_well round_count f Kept well = refl
+point_well round_count f (NotBetter was given_) well = refl
+point_well round_count f Stale well = absurd well
+point_well round_count f Early well = absurd well
+point_well round_count f (Broken first) well = absurd well
+point_well round_count f InRace well = absurd well
+point_well round_count f Again well = absurd well
+point_well round_count f (Gap want got) well = absurd well
+point_well round_count f (Outside column) well = absurd well
+point_well round_count f (Unbacked cutoff incumbent) well = absurd well
+point_well round_count f (Short said was) well = absurd well
+point_well round_count f Memory well = absurd well
 
-point_ill : (tally : Tally) (f : Engaged) (answer : Heard) → ¬ IsWellOffered answer
-    → behind_point tally f answer ≡ Free tally
-point_ill tally f Kept ill = absurd (ill tt)
-point_ill tally f (NotBetter was given_) ill = absurd (ill tt)
-point_ill tally f Stale ill = refl
-point_ill tally f Early ill = refl
-point_ill tally f (Broken first) ill = refl
-point_ill tally f InRace ill = refl
-point_ill tally f Again ill = refl
-point_ill tally f (Gap want got) ill = refl
-point_ill tally f (Outside column) ill = refl
-point_ill tally f (Unbacked cutoff incumbent) ill = refl
-point_ill tally f (Short said was) ill = refl
-point_ill tally f Memory ill = refl
+point_ill : (round_count : RoundCount) (f : Engaged) (answer : Heard) → ¬ IsWellOffered answer
+    → behind_point round_count f answer ≡ Free round_count
+point_ill round_count f Kept ill = absurd (ill tt)
+point_ill round_count f (NotBetter was given_) ill = absurd (ill tt)
+point_ill round_count f Stale ill = refl
+point_ill round_count f Early ill = refl
+point_ill round_count f (Broken first) ill = refl
+point_ill round_count f InRace ill = refl
+point_ill round_count f Again ill = refl
+point_ill round_count f (Gap want got) ill = refl
+point_ill round_count f (Outside column) ill = refl
+point_ill round_count f (Unbacked cutoff incumbent) ill = refl
+point_ill round_count f (Short said was) ill = refl
+point_ill round_count f Memory ill = refl
 
 -- the cutoff of a point of its own
 own_known : (p q : PassState) (task : TaskState) (x : List ℤ) (answer : Heard) (after : LockedState)
@@ -542,23 +542,23 @@ found_of p q asked e f x answer after h well found its =
     }
 
 pub seat_found : (d : Desk) (x : List ℤ) (answer : Heard) (after : LockedState) (p q : PassState) (asked : Asked)
-    (tally : Tally) (e f : Engaged) → HasCalledAt (Some (offered x answer)) after p q → IsFoundBy e x f
-    → IsSeated d p asked tally (Some e) → IsWellOffered answer → IsSeated d q asked tally (Some f)
-seat_found d x answer after p q asked tally e f h found s well = record {
+    (round_count : RoundCount) (e f : Engaged) → HasCalledAt (Some (offered x answer)) after p q → IsFoundBy e x f
+    → IsSeated d p asked round_count (Some e) → IsWellOffered answer → IsSeated d q asked round_count (Some f)
+seat_found d x answer after p q asked round_count e f h found s well = record {
   lock = h.same.0 ∙ s.lock;
-  trace = subst (Reaches q) (point_well tally f answer well)
-      (come_called (offered x answer) after p q (Busy tally e) (behind_point tally f answer) h
+  trace = subst (Reaches q) (point_well round_count f answer well)
+      (come_called (offered x answer) after p q (Busy round_count e) (behind_point round_count f answer) h
       (f, found, refl) (λ o past opened read. tt) s.trace);
   its = found_of p q asked e f x answer after h well found s.its;
 }
 
 pub seat_dropped : (d : Desk) (x : List ℤ) (answer : Heard) (after : LockedState) (p q : PassState) (asked : Asked)
-    (tally : Tally) (e f : Engaged) → HasCalledAt (Some (offered x answer)) after p q → IsFoundBy e x f
-    → IsSeated d p asked tally (Some e) → ¬ IsWellOffered answer → IsSeated d q asked tally None
-seat_dropped d x answer after p q asked tally e f h found s ill = record {
+    (round_count : RoundCount) (e f : Engaged) → HasCalledAt (Some (offered x answer)) after p q → IsFoundBy e x f
+    → IsSeated d p asked round_count (Some e) → ¬ IsWellOffered answer → IsSeated d q asked round_count None
+seat_dropped d x answer after p q asked round_count e f h found s ill = record {
   lock = h.same.0 ∙ s.lock;
-  trace = subst (Reaches q) (point_ill tally f answer ill)
-      (come_called (offered x answer) after p q (Busy tally e) (behind_point tally f answer) h
+  trace = subst (Reaches q) (point_ill round_count f answer ill)
+      (come_called (offered x answer) after p q (Busy round_count e) (behind_point round_count f answer) h
       (f, found, refl) (λ o past opened read. tt) s.trace);
   its = tt;
 }
@@ -566,21 +566,21 @@ seat_dropped d x answer after p q asked tally e f h found s ill = record {
 -- ---- a box
 
 -- a box that is handed is as wide as the problem
-hand_wide : (tally : Tally) (e f : Engaged) (number : ℕ) (area : List Interval) → IsHandedBy tally e number area f
+hand_wide : (round_count : RoundCount) (e f : Engaged) (number : ℕ) (area : List Interval) → IsHandedBy round_count e number area f
     → length area ≡ length e.task.problem.columns
-hand_wide tally e f number area h =
+hand_wide round_count e f number area h =
     let same = quiet_same h.since.more e.task h.task h.since.quiet in
     (handed_below f.task h.task.handed area h.own h.handed.handed).width
     ∙ (length-map f.task.problem.columns bounds_of ∙ ap (λ (p : Instance). length p.columns)
     (ap (λ (t : TaskState). t.problem) h.handed.same ∙ same.problem))
 
-handed_of : (p q : PassState) (count less : ℕ) (racing : Bool) (tally : Tally) (e f : Engaged) (number : ℕ)
+handed_of : (p q : PassState) (count less : ℕ) (racing : Bool) (round_count : RoundCount) (e f : Engaged) (number : ℕ)
     (area : List Interval) → q.opening ≡ p.opening
     → ((cutoff : Option ℤ) → IsKnownBacked p cutoff → IsKnownBacked q cutoff)
-    → IsHandedBy tally e number area f → less ≡ count - 1
+    → IsHandedBy round_count e number area f → less ≡ count - 1
     → IsOfDesk p (record { count = count; racing = racing }) e
     → IsOfDesk q (record { count = less; racing = racing }) f
-handed_of p q count less racing tally e f number area same known h few its =
+handed_of p q count less racing round_count e f number area same known h few its =
     let quiet = quiet_same h.since.more e.task h.task h.since.quiet in
     let is = h.handed.same in
     record {
@@ -594,42 +594,42 @@ handed_of p q count less racing tally e f number area same known h few its =
     }
 
 -- so it has an entry
-hand_called : (number : ℕ) (area : List Interval) (answer : Heard) (p q : PassState) (tally : Tally)
-    (e f : Engaged) → HasHandedIn number area answer p q → IsHandedBy tally e number area f
+hand_called : (number : ℕ) (area : List Interval) (answer : Heard) (p q : PassState) (round_count : RoundCount)
+    (e f : Engaged) → HasHandedIn number area answer p q → IsHandedBy round_count e number area f
     → ((o : Opening) → p.opening ≡ Some o → e.task.problem ≡ o.problem)
     → (after : LockedState) × HasCalledAt (Some (handed number area answer)) after p q
-hand_called number area answer p q tally e f h handed_ problem =
+hand_called number area answer p q round_count e f h handed_ problem =
     dite (ℕ_discrete (length area) (length h.after.now.book.problem.columns))
     (λ is. (h.after, h.wide is))
     (λ off.
     let no = h.other off in
     let opened = no.0.opened in
-    absurd (off (hand_wide tally e f number area handed_
+    absurd (off (hand_wide round_count e f number area handed_
     ∙ ap (λ (k : Instance). length k.columns)
     (problem h.after.opening opened ∙ sym (called_same None h.after p q h.after.opening no.0 opened).problem))))
 
 pub seat_handed : (d : Desk) (number : ℕ) (area : List Interval) (answer : Heard) (p q : PassState)
-    (count less : ℕ) (racing : Bool) (tally : Tally) (e f : Engaged)
-    → HasHandedIn number area answer p q → IsHandedBy tally e number area f → less ≡ count - 1
-    → IsSeated d p (record { count = count; racing = racing }) tally (Some e)
-    → IsSeated d q (record { count = less; racing = racing }) tally (Some f)
-seat_handed d number area answer p q count less racing tally e f in_ handed_ few s =
-    let (after, h) = hand_called number area answer p q tally e f in_ handed_ s.its.problem in
+    (count less : ℕ) (racing : Bool) (round_count : RoundCount) (e f : Engaged)
+    → HasHandedIn number area answer p q → IsHandedBy round_count e number area f → less ≡ count - 1
+    → IsSeated d p (record { count = count; racing = racing }) round_count (Some e)
+    → IsSeated d q (record { count = less; racing = racing }) round_count (Some f)
+seat_handed d number area answer p q count less racing round_count e f in_ handed_ few s =
+    let (after, h) = hand_called number area answer p q round_count e f in_ handed_ s.its.problem in
     record {
       lock = h.same.0 ∙ s.lock;
-      trace = come_called (handed number area answer) after p q (Busy tally e) (Busy tally f) h
+      trace = come_called (handed number area answer) after p q (Busy round_count e) (Busy round_count f) h
           (f, handed_, refl) (λ o past opened read. tt) s.trace;
-      its = handed_of p q count less racing tally e f number area h.same.2
+      its = handed_of p q count less racing round_count e f number area h.same.2
           (λ cutoff known. known_on (Some (handed number area answer)) after p q cutoff h known) handed_ few s.its;
     }
 
 -- ---- the rest
 
 replied_of : (count : ℕ) (floor : ℤ) (reply : Reply) (after : LockedState) (p q : PassState) (asked : Asked)
-    (tally : Tally) (e f : Engaged) → HasCalledAt (Some (stated count floor (Ok reply))) after p q
-    → IsStatedBy tally e count floor f → IsOfDesk p asked e
+    (round_count : RoundCount) (e f : Engaged) → HasCalledAt (Some (stated count floor (Ok reply))) after p q
+    → IsStatedBy round_count e count floor f → IsOfDesk p asked e
     → IsOfDesk q (record { count = reply.collect; racing = reply.racing }) (replied_to f reply)
-replied_of count floor reply after p q asked tally e f h stated_ its =
+replied_of count floor reply after p q asked round_count e f h stated_ its =
     let quiet = quiet_same stated_.since.more e.task stated_.task stated_.since.quiet in
     let is : f.task ≡ stated_.task = ap (λ (k : Engaged). k.task) stated_.same in
     record {
@@ -645,10 +645,10 @@ replied_of count floor reply after p q asked tally e f h stated_ its =
       racing = refl;
     }
 
-stated_of : (p q : PassState) (asked : Asked) (tally : Tally) (e f : Engaged) (count : ℕ) (floor : ℤ)
+stated_of : (p q : PassState) (asked : Asked) (round_count : RoundCount) (e f : Engaged) (count : ℕ) (floor : ℤ)
     → q.opening ≡ p.opening → ((cutoff : Option ℤ) → IsKnownBacked p cutoff → IsKnownBacked q cutoff)
-    → IsStatedBy tally e count floor f → IsOfDesk p asked e → IsOfDesk q asked f
-stated_of p q asked tally e f count floor same known stated_ its =
+    → IsStatedBy round_count e count floor f → IsOfDesk p asked e → IsOfDesk q asked f
+stated_of p q asked round_count e f count floor same known stated_ its =
     let quiet = quiet_same stated_.since.more e.task stated_.task stated_.since.quiet in
     let is : f.task ≡ stated_.task = ap (λ (k : Engaged). k.task) stated_.same in
     record {
@@ -673,31 +673,31 @@ stated_line count floor reply after p q h o past opened read =
     (no_higher word h.known h.lower) read
 
 seat_replied : (stop : Bool) (d : Desk) (count : ℕ) (floor : ℤ) (reply : Reply) (after : LockedState)
-    (p q s : PassState) (asked : Asked) (tally : Tally) (e f : Engaged) → reply.stop ≡ stop
-    → HasCalledAt (Some (stated count floor (Ok reply))) after p q → HasStayed q s → IsStatedBy tally e count floor f
-    → IsSeated d p asked tally (Some e)
-    → is_replied (IsSeated d s (record { count = reply.collect; racing = reply.racing }) (counted tally)) stop
+    (p q s : PassState) (asked : Asked) (round_count : RoundCount) (e f : Engaged) → reply.stop ≡ stop
+    → HasCalledAt (Some (stated count floor (Ok reply))) after p q → HasStayed q s → IsStatedBy round_count e count floor f
+    → IsSeated d p asked round_count (Some e)
+    → is_replied (IsSeated d s (record { count = reply.collect; racing = reply.racing }) (counted round_count)) stop
     f.task reply
-seat_replied true d count floor reply after p q s asked tally e f stops h stayed stated_ seated =
-    stay_seated d q s (record { count = reply.collect; racing = reply.racing }) (counted tally) None stayed
+seat_replied true d count floor reply after p q s asked round_count e f stops h stayed stated_ seated =
+    stay_seated d q s (record { count = reply.collect; racing = reply.racing }) (counted round_count) None stayed
     (record {
       lock = h.same.0 ∙ seated.lock;
       trace = subst (Reaches q)
-          (ap (λ (b : Bool). if b then Free (counted tally) else Busy (counted tally) (replied_to f reply)) stops)
-          (come_called (stated count floor (Ok reply)) after p q (Busy tally e) (behind_reply (counted tally) f reply)
+          (ap (λ (b : Bool). if b then Free (counted round_count) else Busy (counted round_count) (replied_to f reply)) stops)
+          (come_called (stated count floor (Ok reply)) after p q (Busy round_count e) (behind_reply (counted round_count) f reply)
           h (f, stated_, refl) (stated_line count floor reply after p q h) seated.trace);
       its = tt;
     })
-seat_replied false d count floor reply after p q s asked tally e f stops h stayed stated_ seated = record {
+seat_replied false d count floor reply after p q s asked round_count e f stops h stayed stated_ seated = record {
   now = replied_to f reply;
-  at = stay_seated d q s (record { count = reply.collect; racing = reply.racing }) (counted tally)
+  at = stay_seated d q s (record { count = reply.collect; racing = reply.racing }) (counted round_count)
       (Some (replied_to f reply)) stayed (record {
         lock = h.same.0 ∙ seated.lock;
         trace = subst (Reaches q)
-            (ap (λ (b : Bool). if b then Free (counted tally) else Busy (counted tally) (replied_to f reply)) stops)
-            (come_called (stated count floor (Ok reply)) after p q (Busy tally e) (behind_reply (counted tally) f reply)
+            (ap (λ (b : Bool). if b then Free (counted round_count) else Busy (counted round_count) (replied_to f reply)) stops)
+            (come_called (stated count floor (Ok reply)) after p q (Busy round_count e) (behind_reply (counted round_count) f reply)
             h (f, stated_, refl) (stated_line count floor reply after p q h) seated.trace);
-        its = replied_of count floor reply after p q asked tally e f h stated_ seated.its;
+        its = replied_of count floor reply after p q asked round_count e f h stated_ seated.its;
       });
   made = refl;
   due = refl;
@@ -706,37 +706,37 @@ seat_replied false d count floor reply after p q s asked tally e f stops h staye
 }
 
 pub seat_answered : (d : Desk) (count : ℕ) (floor : ℤ) (reply : Result Reply Unfinished)
-    (result : Result Reply AllocError) (after : LockedState) (p q s : PassState) (asked now : Asked) (tally : Tally)
+    (result : Result Reply AllocError) (after : LockedState) (p q s : PassState) (asked now : Asked) (round_count : RoundCount)
     (e f : Engaged) → IfOk reply (λ own. result ≡ Ok own) → OnErr reply (IsErr result)
     → IfOk reply (λ own. now ≡ record { count = own.collect; racing = own.racing })
-    → HasCalledAt (Some (stated count floor reply)) after p q → HasStayed q s → IsStatedBy tally e count floor f
-    → IsSeated d p asked tally (Some e)
-    → IfOk result (IsReplied (IsSeated d s now (counted tally)) f.task)
-seat_answered d count floor (Ok reply) result after p q s asked now tally e f own err is h stayed stated_ seated =
-    subst (λ (r : Result Reply AllocError). IfOk r (IsReplied (IsSeated d s now (counted tally)) f.task)) (sym own)
-    (subst (λ (a : Asked). IsReplied (IsSeated d s a (counted tally)) f.task reply) (sym is)
-    (seat_replied reply.stop d count floor reply after p q s asked tally e f refl h stayed stated_ seated))
-seat_answered d count floor (Err end) (Ok reply) after p q s asked now tally e f own err is h stayed stated_ seated =
+    → HasCalledAt (Some (stated count floor reply)) after p q → HasStayed q s → IsStatedBy round_count e count floor f
+    → IsSeated d p asked round_count (Some e)
+    → IfOk result (IsReplied (IsSeated d s now (counted round_count)) f.task)
+seat_answered d count floor (Ok reply) result after p q s asked now round_count e f own err is h stayed stated_ seated =
+    subst (λ (r : Result Reply AllocError). IfOk r (IsReplied (IsSeated d s now (counted round_count)) f.task)) (sym own)
+    (subst (λ (a : Asked). IsReplied (IsSeated d s a (counted round_count)) f.task reply) (sym is)
+    (seat_replied reply.stop d count floor reply after p q s asked round_count e f refl h stayed stated_ seated))
+seat_answered d count floor (Err end) (Ok reply) after p q s asked now round_count e f own err is h stayed stated_ seated =
     absurd (false≢true err)
-seat_answered d count floor (Err end) (Err error) after p q s asked now tally e f own err is h stayed stated_ seated = tt
+seat_answered d count floor (Err end) (Err error) after p q s asked now round_count e f own err is h stayed stated_ seated = tt
 
 pub seat_unanswered : (d : Desk) (count : ℕ) (floor : ℤ) (reply : Result Reply Unfinished)
-    (result : Result Reply AllocError) (after : LockedState) (p q s : PassState) (asked now : Asked) (tally : Tally)
+    (result : Result Reply AllocError) (after : LockedState) (p q s : PassState) (asked now : Asked) (round_count : RoundCount)
     (e f : Engaged) → IfOk reply (λ own. result ≡ Ok own) → OnErr reply (now ≡ asked)
-    → HasCalledAt (Some (stated count floor reply)) after p q → HasStayed q s → IsStatedBy tally e count floor f
-    → IsSeated d p asked tally (Some e) → OnErr result (Stands (IsSeated d s now))
-seat_unanswered d count floor (Ok reply) result after p q s asked now tally e f own is h stayed stated_ seated =
+    → HasCalledAt (Some (stated count floor reply)) after p q → HasStayed q s → IsStatedBy round_count e count floor f
+    → IsSeated d p asked round_count (Some e) → OnErr result (Stands (IsSeated d s now))
+seat_unanswered d count floor (Ok reply) result after p q s asked now round_count e f own is h stayed stated_ seated =
     subst (λ (r : Result Reply AllocError). OnErr r (Stands (IsSeated d s now))) (sym own) tt
-seat_unanswered d count floor (Err end) (Ok reply) after p q s asked now tally e f own is h stayed stated_ seated = tt
-seat_unanswered d count floor (Err end) (Err error) after p q s asked now tally e f own is h stayed stated_ seated =
+seat_unanswered d count floor (Err end) (Ok reply) after p q s asked now round_count e f own is h stayed stated_ seated = tt
+seat_unanswered d count floor (Err end) (Err error) after p q s asked now round_count e f own is h stayed stated_ seated =
     subst (λ (a : Asked). Stands (IsSeated d s a)) (sym is) (
-      tally,
+      round_count,
       Some f,
-      stay_seated d q s asked tally (Some f) stayed (record {
+      stay_seated d q s asked round_count (Some f) stayed (record {
         lock = h.same.0 ∙ seated.lock;
-        trace = come_called (stated count floor (Err end)) after p q (Busy tally e) (Busy tally f) h
+        trace = come_called (stated count floor (Err end)) after p q (Busy round_count e) (Busy round_count f) h
             (f, stated_, refl) (λ o past opened read. tt) seated.trace;
-        its = stated_of p q asked tally e f count floor h.same.2
+        its = stated_of p q asked round_count e f count floor h.same.2
             (λ cutoff known. known_on (Some (stated count floor (Err end))) after p q cutoff h known) stated_ seated.its;
       }),
     )
@@ -752,38 +752,38 @@ pub done_known : (p : PassState) (asked : Asked) (e : Engaged) (task : TaskState
     → IsOfDesk p asked e → IsKnownBacked p task.cutoff
 done_known p asked e task done its = (quiet_of p asked e task done.count done.since its).known
 
-pub seat_ended : (d : Desk) (task : TaskState) (answer : Heard) (p q : PassState) (asked : Asked) (tally : Tally)
-    (e : Engaged) → HasEndedIn task answer p q → IsDoneBy e task → IsSeated d p asked tally (Some e)
-    → IsSeated d q asked tally None
-seat_ended d task answer p q asked tally e (inl (after, h)) done s = record {
+pub seat_ended : (d : Desk) (task : TaskState) (answer : Heard) (p q : PassState) (asked : Asked) (round_count : RoundCount)
+    (e : Engaged) → HasEndedIn task answer p q → IsDoneBy e task → IsSeated d p asked round_count (Some e)
+    → IsSeated d q asked round_count None
+seat_ended d task answer p q asked round_count e (inl (after, h)) done s = record {
   lock = h.same.0 ∙ s.lock;
-  trace = come_called (ended task answer) after p q (Busy tally e) (Free tally) h (done, refl) (λ o past opened read. tt) s.trace;
+  trace = come_called (ended task answer) after p q (Busy round_count e) (Free round_count) h (done, refl) (λ o past opened read. tt) s.trace;
   its = tt;
 }
-seat_ended d task answer p q asked tally e (inr other) done s = record {
+seat_ended d task answer p q asked round_count e (inr other) done s = record {
   lock = other.called.same.0 ∙ s.lock;
-  trace = come_ended task answer p q (Busy tally e) (Free tally) other (done, refl) s.trace;
+  trace = come_ended task answer p q (Busy round_count e) (Free round_count) other (done, refl) s.trace;
   its = tt;
 }
 
-leaves : (tally : Tally) (some : Option Engaged) → NextState (stage_of tally some) (Called left) Away
-leaves tally None = refl
-leaves tally (Some e) = refl
+leaves : (round_count : RoundCount) (some : Option Engaged) → NextState (stage_of round_count some) (Called left) Away
+leaves round_count None = refl
+leaves round_count (Some e) = refl
 
-leaves_in_vain : (tally : Tally) (some : Option Engaged) (history : List Entry)
-    → NextState (stage_of tally some) (LeftInVain history) Away
-leaves_in_vain tally None history = refl
-leaves_in_vain tally (Some e) history = refl
+leaves_in_vain : (round_count : RoundCount) (some : Option Engaged) (history : List Entry)
+    → NextState (stage_of round_count some) (LeftInVain history) Away
+leaves_in_vain round_count None history = refl
+leaves_in_vain round_count (Some e) history = refl
 
-pub seat_gone : (d : Desk) (p q : PassState) (asked : Asked) (tally : Tally) (some : Option Engaged)
-    → HasLeft p q → IsSeated d p asked tally some → IsLeft d q
-seat_gone d p q asked tally some (inl (after, h)) s = record {
+pub seat_gone : (d : Desk) (p q : PassState) (asked : Asked) (round_count : RoundCount) (some : Option Engaged)
+    → HasLeft p q → IsSeated d p asked round_count some → IsLeft d q
+seat_gone d p q asked round_count some (inl (after, h)) s = record {
   lock = h.same.0 ∙ s.lock;
-  trace = come_called left after p q (stage_of tally some) Away h (leaves tally some) (λ o past opened read. tt) s.trace;
+  trace = come_called left after p q (stage_of round_count some) Away h (leaves round_count some) (λ o past opened read. tt) s.trace;
 }
-seat_gone d p q asked tally some (inr gone) s = record {
+seat_gone d p q asked round_count some (inr gone) s = record {
   lock = gone.called.same.0 ∙ s.lock;
-  trace = come_left p q (stage_of tally some) Away gone (leaves_in_vain tally some q.seen) s.trace;
+  trace = come_left p q (stage_of round_count some) Away gone (leaves_in_vain round_count some q.seen) s.trace;
 }
 
 -- a pass leaves at which nobody sits

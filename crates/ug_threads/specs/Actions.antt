@@ -4,14 +4,14 @@ use Rattle.ug_base.specs.Tasks.{TaskState}
 use Rattle.ug_rules.specs.declared.heard.Heard.{Heard}
 use Rattle.ug_rules.specs.declared.heard.Heard.TheVariants.{Kept, NotBetter}
 use Rattle.ug_worker.specs.declared.reply.Reply.{Reply}
-use Rattle.ug_worker.specs.declared.tally.Renewal.{Renewal}
-use Rattle.ug_worker.specs.declared.tally.Tally.{Tally}
+use Rattle.ug_worker.specs.declared.round_count.ReleasePolicy.{ReleasePolicy}
+use Rattle.ug_worker.specs.declared.round_count.RoundCount.{RoundCount}
 use Rattle.ug_worker.specs.declared.took.Took.{Took}
 use Rattle.ug_worker.specs.declared.took.Took.TheVariants.{Work, Wait, Over}
 use Rattle.ug_worker.specs.declared.took.Untaken.{Untaken}
 use Rattle.ug_worker.specs.Engagements.{Engaged, IsDoneBy, IsFoundBy, IsHandedBy, IsStatedBy}
 use Rattle.ug_worker.specs.Engagements.{lowered, under}
-use Rattle.ug_worker.specs.Renewals.{begun, counted, fresh}
+use Rattle.ug_worker.specs.Releases.{begun, counted, fresh}
 use Rattle.ug_desk.specs.Histories.{Call, Entry, taken, offered, handed, stated, ended}
 use Rattle.ug_desk.specs.Histories.{left, copied}
 
@@ -19,7 +19,7 @@ use Rattle.ug_desk.specs.Histories.{left, copied}
 -- reads a cutoff; it reports the end of a task whose ticket had ended; or it leaves after its rank
 -- was lost. A action in vain has no entry in the history, so it names the history as it was then.
 pub data Action : Type 0 where
-  Sat : Option Renewal → Action
+  Sat : Option ReleasePolicy → Action
   Called : Call → Action
   Read : Option ℤ → Action
   EndedInVain : TaskState → List Entry → Action
@@ -28,19 +28,19 @@ pub data Action : Type 0 where
 -- the stage of a pass: nobody sits at it; its worker has no task; or it has one
 pub data Stage : Type 0 where
   Away : Stage
-  Free : Tally → Stage
-  Busy : Tally → Engaged → Stage
+  Free : RoundCount → Stage
+  Busy : RoundCount → Engaged → Stage
 
 -- a task that was taken: nothing is asked for yet, and others may have the same box
 abbrev pub taken_up : TaskState → Engaged
 taken_up task = record { task = task; made = 0; asked = 0; racing = true }
 
 -- what there was for a worker that has no task
-abbrev pub IsTakenBy : Tally → Result Took Untaken → Stage → Type 0
-IsTakenBy tally (Ok (Work task)) new = new ≡ Busy (begun tally) (taken_up task)
-IsTakenBy tally (Ok Wait) new = new ≡ Free tally
-IsTakenBy tally (Ok Over) new = new ≡ Away
-IsTakenBy tally (Err end) new = new ≡ Free tally
+abbrev pub IsTakenBy : RoundCount → Result Took Untaken → Stage → Type 0
+IsTakenBy round_count (Ok (Work task)) new = new ≡ Busy (begun round_count) (taken_up task)
+IsTakenBy round_count (Ok Wait) new = new ≡ Free round_count
+IsTakenBy round_count (Ok Over) new = new ≡ Away
+IsTakenBy round_count (Err end) new = new ≡ Free round_count
 
 -- the task continues as was replied
 abbrev pub replied_to : Engaged → Reply → Engaged
@@ -52,14 +52,14 @@ replied_to e reply = record {
 }
 
 -- it is dropped where that was replied
-abbrev pub behind_reply : Tally → Engaged → Reply → Stage
-behind_reply tally e reply = (if reply.stop then Free tally else Busy tally (replied_to e reply))
+abbrev pub behind_reply : RoundCount → Engaged → Reply → Stage
+behind_reply round_count e reply = (if reply.stop then Free round_count else Busy round_count (replied_to e reply))
 
 -- it is dropped where its point was neither kept nor feasible and not better
-abbrev pub behind_point : Tally → Engaged → Heard → Stage
-behind_point tally e Kept = Busy tally e
-behind_point tally e (NotBetter was given) = Busy tally e
-behind_point tally e answer = Free tally
+abbrev pub behind_point : RoundCount → Engaged → Heard → Stage
+behind_point round_count e Kept = Busy round_count e
+behind_point round_count e (NotBetter was given) = Busy round_count e
+behind_point round_count e answer = Free round_count
 
 -- a call where nobody sits
 abbrev pub IsCalledAway : Call → Stage → Type 0
@@ -67,50 +67,50 @@ IsCalledAway left new = new ≡ Away
 IsCalledAway call new = ⊥
 
 -- a call of a worker that has no task
-abbrev pub IsCalledFree : Tally → Call → Stage → Type 0
-IsCalledFree tally (taken took) new = IsTakenBy tally took new
-IsCalledFree tally left new = new ≡ Away
-IsCalledFree tally copied new = new ≡ Free tally
-IsCalledFree tally call new = ⊥
+abbrev pub IsCalledFree : RoundCount → Call → Stage → Type 0
+IsCalledFree round_count (taken took) new = IsTakenBy round_count took new
+IsCalledFree round_count left new = new ≡ Away
+IsCalledFree round_count copied new = new ≡ Free round_count
+IsCalledFree round_count call new = ⊥
 
 -- a call of one that has
-abbrev pub IsCalledBusy : Tally → Engaged → Call → Stage → Type 0
-IsCalledBusy tally e (offered x answer) new =
-    (f : Engaged) × IsFoundBy e x f × (new ≡ behind_point tally f answer)
-IsCalledBusy tally e (handed number area answer) new =
-    (f : Engaged) × IsHandedBy tally e number area f × (new ≡ Busy tally f)
-IsCalledBusy tally e (stated count floor (Ok reply)) new = (f : Engaged)
-    × IsStatedBy tally e count floor f × (new ≡ behind_reply (counted tally) f reply)
-IsCalledBusy tally e (stated count floor (Err end)) new =
-    (f : Engaged) × IsStatedBy tally e count floor f × (new ≡ Busy tally f)
-IsCalledBusy tally e (ended task answer) new = IsDoneBy e task × (new ≡ Free tally)
-IsCalledBusy tally e left new = new ≡ Away
-IsCalledBusy tally e copied new = new ≡ Busy tally e
-IsCalledBusy tally e call new = ⊥
+abbrev pub IsCalledBusy : RoundCount → Engaged → Call → Stage → Type 0
+IsCalledBusy round_count e (offered x answer) new =
+    (f : Engaged) × IsFoundBy e x f × (new ≡ behind_point round_count f answer)
+IsCalledBusy round_count e (handed number area answer) new =
+    (f : Engaged) × IsHandedBy round_count e number area f × (new ≡ Busy round_count f)
+IsCalledBusy round_count e (stated count floor (Ok reply)) new = (f : Engaged)
+    × IsStatedBy round_count e count floor f × (new ≡ behind_reply (counted round_count) f reply)
+IsCalledBusy round_count e (stated count floor (Err end)) new =
+    (f : Engaged) × IsStatedBy round_count e count floor f × (new ≡ Busy round_count f)
+IsCalledBusy round_count e (ended task answer) new = IsDoneBy e task × (new ≡ Free round_count)
+IsCalledBusy round_count e left new = new ≡ Away
+IsCalledBusy round_count e copied new = new ≡ Busy round_count e
+IsCalledBusy round_count e call new = ⊥
 
 -- a action where nobody sits
 abbrev pub IsDoneAway : Action → Stage → Type 0
-IsDoneAway (Sat renewal) new = new ≡ Free (fresh renewal)
+IsDoneAway (Sat policy) new = new ≡ Free (fresh policy)
 IsDoneAway (Called call) new = IsCalledAway call new
 IsDoneAway (LeftInVain history) new = new ≡ Away
 IsDoneAway action new = ⊥
 
 -- a action of a worker that has no task
-abbrev pub IsDoneFree : Tally → Action → Stage → Type 0
-IsDoneFree tally (Called call) new = IsCalledFree tally call new
-IsDoneFree tally (LeftInVain history) new = new ≡ Away
-IsDoneFree tally action new = ⊥
+abbrev pub IsDoneFree : RoundCount → Action → Stage → Type 0
+IsDoneFree round_count (Called call) new = IsCalledFree round_count call new
+IsDoneFree round_count (LeftInVain history) new = new ≡ Away
+IsDoneFree round_count action new = ⊥
 
 -- A action of one that has. It lowers its cutoff to one that it read between two rounds.
-abbrev pub IsDoneBusy : Tally → Engaged → Action → Stage → Type 0
-IsDoneBusy tally e (Called call) new = IsCalledBusy tally e call new
-IsDoneBusy tally e (Read cutoff) new = (e.made ≡ 0) × (new ≡ Busy tally (under cutoff e))
-IsDoneBusy tally e (EndedInVain task history) new = IsDoneBy e task × (new ≡ Free tally)
-IsDoneBusy tally e (LeftInVain history) new = new ≡ Away
-IsDoneBusy tally e action new = ⊥
+abbrev pub IsDoneBusy : RoundCount → Engaged → Action → Stage → Type 0
+IsDoneBusy round_count e (Called call) new = IsCalledBusy round_count e call new
+IsDoneBusy round_count e (Read cutoff) new = (e.made ≡ 0) × (new ≡ Busy round_count (under cutoff e))
+IsDoneBusy round_count e (EndedInVain task history) new = IsDoneBy e task × (new ≡ Free round_count)
+IsDoneBusy round_count e (LeftInVain history) new = new ≡ Away
+IsDoneBusy round_count e action new = ⊥
 
 -- what a action makes of where the pass stood
 abbrev pub NextState : Stage → Action → Stage → Type 0
 NextState Away action new = IsDoneAway action new
-NextState (Free tally) action new = IsDoneFree tally action new
-NextState (Busy tally e) action new = IsDoneBusy tally e action new
+NextState (Free round_count) action new = IsDoneFree round_count action new
+NextState (Busy round_count e) action new = IsDoneBusy round_count e action new

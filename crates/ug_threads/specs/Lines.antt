@@ -9,7 +9,7 @@ use Rattle.ug_desk.specs.Entries.{IsReplayed, LockedState}
 use Rattle.ug_desk.specs.Histories.{Entry, stated}
 use Rattle.ug_desk.specs.Passes.{calls_of}
 use Rattle.ug_desk.specs.Words.{floor_of, word_at}
-use Rattle.ug_worker.specs.Renewals.{usual}
+use Rattle.ug_worker.specs.Releases.{usual}
 use Rattle.ug_threads.specs.Actions.{Away, Called, Action, NextState, EndedInVain, LeftInVain, Read, Sat, Stage}
 
 -- the entries that the history has of the actions of pass r, in order
@@ -37,7 +37,7 @@ pub record HasStood (o : Opening) (r : ℕ) (past : List Action) (history : List
 -- vain if the task was not of the rank's ticket, and a worker leaves in vain if its rank was dead.
 -- A worker releases tasks by the program's rule, or never.
 abbrev pub IsInLine : Opening → ℕ → List Action → Action → Type 0
-IsInLine o r past (Sat renewal) = IfSome renewal (λ rule. rule ≡ usual)
+IsInLine o r past (Sat policy) = IfSome policy (λ rule. rule ≡ usual)
 IsInLine o r past (Called (stated count low (Ok reply))) =
     AreReadAbove o (word_at (floor_of o.problem) reply.cutoff) past
 IsInLine o r past (EndedInVain task history) =

@@ -2,7 +2,7 @@
 use Rattle.std.specs.Prelude.{◌≡◌, ℕ, ℤ, ◌<◌, ◌≤◌, List, [], Option, Some, None, IfSome}
 use Rattle.ug_book.specs.declared.opening.Opening.{Opening}
 use Rattle.ug_worker.specs.declared.search.Asked.{Asked}
-use Rattle.ug_worker.specs.declared.tally.Tally.{Tally}
+use Rattle.ug_worker.specs.declared.round_count.RoundCount.{RoundCount}
 use Rattle.ug_worker.specs.Engagements.{Engaged}
 use Rattle.ug_desk.specs.declared.desk.Desk.{Desk}
 use Rattle.ug_desk.specs.Backing.{IsKnownBacked}
@@ -38,15 +38,15 @@ pub record IsOfDesk (p : PassState) (asked : Asked) (e : Engaged) : Type 0 where
   pub racing : e.racing ≡ asked.racing
 
 -- the stage of a worker with this tally, and its task, if it has one
-abbrev pub stage_of : Tally → Option Engaged → Stage
-stage_of tally None = Free tally
-stage_of tally (Some e) = Busy tally e
+abbrev pub stage_of : RoundCount → Option Engaged → Stage
+stage_of round_count None = Free round_count
+stage_of round_count (Some e) = Busy round_count e
 
 -- a worker sits at the pass, which is one of the desk
-pub record IsSeated (desk : Desk) (p : PassState) (asked : Asked) (tally : Tally)
+pub record IsSeated (desk : Desk) (p : PassState) (asked : Asked) (round_count : RoundCount)
     (some : Option Engaged) : Type 0 where
   pub lock : p.lock ≡ lock_of_desk desk
-  pub trace : Reaches p (stage_of tally some)
+  pub trace : Reaches p (stage_of round_count some)
   pub its : IfSome some (IsOfDesk p asked)
 
 -- nobody sits at it any more
@@ -60,8 +60,8 @@ pub record HasStayed (p q : PassState) : Type 0 where
   pub lock : q.lock ≡ p.lock
   pub rank : q.rank ≡ p.rank
   pub opening : q.opening ≡ p.opening
-  pub trace : (tally : Tally) (some : Option Engaged) → Reaches p (stage_of tally some)
-      → Reaches q (stage_of tally some)
+  pub trace : (round_count : RoundCount) (some : Option Engaged) → Reaches p (stage_of round_count some)
+      → Reaches q (stage_of round_count some)
   pub known : (cutoff : Option ℤ) → IsKnownBacked p cutoff → IsKnownBacked q cutoff
 
 -- What workers do that end: a history leads to what then stands, in which each pass has the calls

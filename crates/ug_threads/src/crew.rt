@@ -1,7 +1,7 @@
 //! The threads of a solve, one for each pass.
 
 ghost use Rattle.std.specs.Prelude.{◌≡◌, [], length, IfOk, IfSome};
-ghost use Rattle.ug_worker.specs.Renewals.{usual};
+ghost use Rattle.ug_worker.specs.Releases.{usual};
 ghost use Rattle.ug_threads.specs.Places.{IsAt, IsAtOf};
 ghost use Rattle.ug_threads.specs.Rooms.{AreAllAt};
 ghost use Rattle.ug_threads.specs.Crews.{ArePassesAt, HasStarted, IsCrewAt, IsNewCrew, IsPassAt, count_of};
@@ -18,7 +18,7 @@ use ug_book::Opening;
 use ug_desk::{Desk, Pass};
 use ug_restart::{Host, Observer};
 use ug_snapshot::Snapshot;
-use ug_worker::{Renewal, work};
+use ug_worker::{ReleasePolicy, work};
 
 /// What the workers share: the desk, the opening of its history, when snapshots are due, and the
 /// pass whose thread could not be started, by its rank plus 1.
@@ -268,16 +268,16 @@ fn sit<R: Wait, O: Observer>(
         pace: table.pace,
         asked: BEGUN,
     };
-    work(host.rt, &mut seat, renewal_for(table.pace));
+    work(host.rt, &mut seat, policy_for(table.pace));
     seat.into_pass()
 }
 
 // Returns the rule by which tasks are released. Without a checkpoint nothing is gained by it.
-fn renewal_for(pace: &Pace) -> Option<Renewal>
+fn policy_for(pace: &Pace) -> Option<ReleasePolicy>
     ensures { IfSome result (λ rule. rule ≡ usual) }
 {
     if pace.is_wanted() {
-        return Some(Renewal::usual());
+        return Some(ReleasePolicy::usual());
     }
     None
 }

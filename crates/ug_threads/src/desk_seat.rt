@@ -124,7 +124,7 @@ impl<'a, R: Wait, O: Observer> Seat for DeskSeat<'a, R, O> {
     ghost use Rattle.ug_threads.specs.Traces.{IsLeft, IsSeated};
 
     // The pass's own calls are those of a worker in this state.
-    ghost at = { λ seat tally some. IsSeated seat.desk.now seat.pass seat.asked tally some };
+    ghost at = { λ seat round_count some. IsSeated seat.desk.now seat.pass seat.asked round_count some };
 
     ghost over = { λ seat. IsLeft seat.desk.now seat.pass };
 

@@ -7,9 +7,9 @@ use Rattle.ug_base.specs.Steps.{IsFound}
 use Rattle.ug_base.specs.Tasks.{IsLeastFloor, IsTask, TaskState}
 use Rattle.ug_worker.specs.declared.reply.Reply.{Reply}
 use Rattle.ug_worker.specs.declared.search.Asked.{Asked}
-use Rattle.ug_worker.specs.declared.tally.Tally.{Tally}
+use Rattle.ug_worker.specs.declared.round_count.RoundCount.{RoundCount}
 use Rattle.ug_worker.specs.Engagements.{AreQuiet, Engaged, GoesOn, HasBegun, HasObliged, IsFoundBy, IsHandedBy, IsQuiet, IsSince, IsStatedBy, due_by, due_of, lowered, steps_of_round, under}
-use Rattle.ug_worker.specs.Renewals.{IsDue}
+use Rattle.ug_worker.specs.Releases.{IsDue}
 use Rattle.ug_worker.specs.Workers.{HasHanded, IsGiving, IsSearched, IsToTell, StandsAt}
 
 -- a box asked for was handed, where one was due
@@ -103,10 +103,10 @@ module _ (At : Option Engaged → Type 0) where
   abbrev pub handed_now : Engaged → TaskState → Engaged
   handed_now e new = record e { task = new; made = 64; asked = e.asked - 1 }
 
-  pub handed_by : (tally : Tally) (old new : TaskState) (asked : Asked) (given : Handed) → 0 < asked.count
+  pub handed_by : (round_count : RoundCount) (old new : TaskState) (asked : Asked) (given : Handed) → 0 < asked.count
       → IsHanded old new given → IsTask new → (s : StandsAt At old 64 asked)
-      → IsHandedBy tally s.now given.number given.area (handed_now s.now new)
-  handed_by tally old new asked given some handed own s = record {
+      → IsHandedBy round_count s.now given.number given.area (handed_now s.now new)
+  handed_by round_count old new asked given some handed own s = record {
     task = old;
     since = s.since;
     cause = inl (record { due = omega (arith, s.due, some); two = handed.two });
@@ -127,22 +127,22 @@ module _ (At : Option Engaged → Type 0) where
   }
 
   -- all boxes are to be given
-  pub to_give : (tally : Tally) (task : TaskState) (asked : Asked) → HasHanded At task asked
-      → IsDue tally asked.racing → IsGiving At tally task
-  to_give tally task asked h due = record {
+  pub to_give : (round_count : RoundCount) (task : TaskState) (asked : Asked) → HasHanded At task asked
+      → IsDue round_count asked.racing → IsGiving At round_count task
+  to_give round_count task asked h due = record {
     now = h.stands.now;
     at = h.stands.at;
     since = h.stands.since;
     renewed = record {
       obliged = subst (λ (n : ℕ). (n ≡ 0) ⊎ (length task.boxes < 2)) (sym h.stands.due) h.all;
-      due = subst (IsDue tally) (sym h.stands.racing) due;
+      due = subst (IsDue round_count) (sym h.stands.racing) due;
     };
   }
 
-  pub given_by : (tally : Tally) (old new : TaskState) (given : Handed) → IsGiven old new given → IsTask new
-      → (s : IsGiving At tally old)
-      → IsHandedBy tally s.now given.number given.area (handed_now s.now new)
-  given_by tally old new given handed own s = record {
+  pub given_by : (round_count : RoundCount) (old new : TaskState) (given : Handed) → IsGiven old new given → IsTask new
+      → (s : IsGiving At round_count old)
+      → IsHandedBy round_count s.now given.number given.area (handed_now s.now new)
+  given_by round_count old new given handed own s = record {
     task = old;
     since = s.since;
     cause = inr s.renewed;
@@ -151,10 +151,10 @@ module _ (At : Option Engaged → Type 0) where
     same = refl;
   }
 
-  pub still_giving : (tally : Tally) (old new : TaskState) (given : Handed) → IsGiven old new given
-      → (s : IsGiving At tally old) → (After : Option Engaged → Type 0)
-      → After (Some (handed_now s.now new)) → IsGiving After tally new
-  still_giving tally old new given h s After at = record {
+  pub still_giving : (round_count : RoundCount) (old new : TaskState) (given : Handed) → IsGiven old new given
+      → (s : IsGiving At round_count old) → (After : Option Engaged → Type 0)
+      → After (Some (handed_now s.now new)) → IsGiving After round_count new
+  still_giving round_count old new given h s After at = record {
     now = handed_now s.now new;
     at = at;
     since = since_now (handed_now s.now new) (omega arith);
@@ -165,9 +165,9 @@ module _ (At : Option Engaged → Type 0) where
   }
 
   -- none is left
-  pub all_given : (tally : Tally) (task : TaskState) → IsGiving At tally task → IsTask task → task.boxes ≡ []
+  pub all_given : (round_count : RoundCount) (task : TaskState) → IsGiving At round_count task → IsTask task → task.boxes ≡ []
       → IsSearched At task
-  all_given tally task s own none = record {
+  all_given round_count task s own none = record {
     now = s.now;
     at = s.at;
     done = record { count = steps_of_round; since = s.since; own = own; none = none };
@@ -177,27 +177,27 @@ module _ (At : Option Engaged → Type 0) where
   abbrev pub stated_now : Engaged → TaskState → Engaged
   stated_now e task = record e { task = task; made = 0 }
 
-  pub stated_by : (tally : Tally) (task : TaskState) (asked : Asked) (left : ℕ) (floor : ℤ)
-      → (h : IsToTell At tally task asked) → left ≡ length task.boxes
+  pub stated_by : (round_count : RoundCount) (task : TaskState) (asked : Asked) (left : ℕ) (floor : ℤ)
+      → (h : IsToTell At round_count task asked) → left ≡ length task.boxes
       → IsLeastFloor task.problem task.boxes floor
-      → IsStatedBy tally h.handed.stands.now left floor (stated_now h.handed.stands.now task)
-  stated_by tally task asked left floor h count least = record {
+      → IsStatedBy round_count h.handed.stands.now left floor (stated_now h.handed.stands.now task)
+  stated_by round_count task asked left floor h count least = record {
     task = task;
     since = h.handed.stands.since;
     obliged = subst (λ (n : ℕ). (n ≡ 0) ⊎ (length task.boxes < 2)) (sym h.handed.stands.due) h.handed.all;
-    kept = λ due. h.kept (subst (IsDue tally) h.handed.stands.racing due);
+    kept = λ due. h.kept (subst (IsDue round_count) h.handed.stands.racing due);
     count = count;
     least = least;
     same = refl;
   }
 
-  pub stated_at : (tally : Tally) (task : TaskState) (asked : Asked) (left : ℕ) (floor low : ℤ) → low ≡ floor
-      → (h : IsToTell At tally task asked) → left ≡ length task.boxes
+  pub stated_at : (round_count : RoundCount) (task : TaskState) (asked : Asked) (left : ℕ) (floor low : ℤ) → low ≡ floor
+      → (h : IsToTell At round_count task asked) → left ≡ length task.boxes
       → IsLeastFloor task.problem task.boxes floor
-      → IsStatedBy tally h.handed.stands.now left low (stated_now h.handed.stands.now task)
-  stated_at tally task asked left floor low e h count least =
-      subst (λ (value : ℤ). IsStatedBy tally h.handed.stands.now left value (stated_now h.handed.stands.now task))
-      (sym e) (stated_by tally task asked left floor h count least)
+      → IsStatedBy round_count h.handed.stands.now left low (stated_now h.handed.stands.now task)
+  stated_at round_count task asked left floor low e h count least =
+      subst (λ (value : ℤ). IsStatedBy round_count h.handed.stands.now left value (stated_now h.handed.stands.now task))
+      (sym e) (stated_by round_count task asked left floor h count least)
 
   -- a task that continues
   pub stands_on : (task new : TaskState) (reply : Reply) → (h : GoesOn At task reply) → new ≡ lowered reply.cutoff task

@@ -8,10 +8,10 @@ use Rattle.ug_base.specs.Hands.{IsGiven}
 use Rattle.ug_base.specs.Steps.{IsFound, IsPruned, IsSplit}
 use Rattle.ug_base.specs.Tasks.{IsLeastFloor, IsTask, TaskState, lesser_of}
 use Rattle.ug_worker.specs.declared.reply.Reply.{Reply}
-use Rattle.ug_worker.specs.declared.tally.Tally.{Tally}
+use Rattle.ug_worker.specs.declared.round_count.RoundCount.{RoundCount}
 use Rattle.ug_worker.specs.declared.took.Took.{Took}
 use Rattle.ug_worker.specs.declared.took.Took.TheVariants as took
-use Rattle.ug_worker.specs.Renewals.{IsDue, begun}
+use Rattle.ug_worker.specs.Releases.{IsDue, begun}
 
 -- how many steps a round has
 abbrev pub steps_of_round : ℕ
@@ -66,28 +66,28 @@ abbrev pub HasObliged : Engaged → TaskState → Type 0
 HasObliged e task = (due_of e ≡ 0) ⊎ (length task.boxes < 2)
 
 -- then all others are given, where the task is to be renewed
-pub record IsRenewed (tally : Tally) (e : Engaged) (task : TaskState) : Type 0 where
+pub record IsRenewed (round_count : RoundCount) (e : Engaged) (task : TaskState) : Type 0 where
   pub obliged : HasObliged e task
-  pub due : IsDue tally e.racing
+  pub due : IsDue round_count e.racing
 
 -- the round is over, and a box was handed that is asked for, or given
-pub record IsHandedBy (tally : Tally) (e : Engaged) (number : ℕ) (area : List Interval)
+pub record IsHandedBy (round_count : RoundCount) (e : Engaged) (number : ℕ) (area : List Interval)
     (f : Engaged) : Type 0 where
   pub task : TaskState
   pub since : IsSince e task steps_of_round
-  pub cause : IsWanted e task ⊎ IsRenewed tally e task
+  pub cause : IsWanted e task ⊎ IsRenewed round_count e task
   pub handed : IsGiven task f.task (record { number = number; area = area })
   pub own : IsTask f.task
   pub same : f ≡ record e { task = f.task; made = steps_of_round; asked = e.asked - 1 }
 
 -- the round is over, all boxes that are asked for were handed, unless fewer than two are left, the
 -- task is not to be released, and `left` boxes are left, whose least floor is this
-pub record IsStatedBy (tally : Tally) (e : Engaged) (left : ℕ) (floor : ℤ) (f : Engaged)
+pub record IsStatedBy (round_count : RoundCount) (e : Engaged) (left : ℕ) (floor : ℤ) (f : Engaged)
     : Type 0 where
   pub task : TaskState
   pub since : IsSince e task steps_of_round
   pub obliged : HasObliged e task
-  pub kept : ¬ IsDue tally e.racing
+  pub kept : ¬ IsDue round_count e.racing
   pub count : left ≡ length task.boxes
   pub least : IsLeastFloor task.problem task.boxes floor
   pub same : f ≡ record e { task = task; made = 0 }
@@ -117,10 +117,10 @@ pub record IsBegun (e : Engaged) (task : TaskState) : Type 0 where
 abbrev pub due_by : Reply → ℕ
 due_by reply = (if reply.racing then 0 else reply.collect)
 
-module _ (At : Tally → Option Engaged → Type 0) where
+module _ (At : RoundCount → Option Engaged → Type 0) where
   -- with a task or without one
   abbrev pub Stands : Type 0
-  Stands = (tally : Tally) × (some : Option Engaged) × At tally some
+  Stands = (round_count : RoundCount) × (some : Option Engaged) × At round_count some
 
 module _ (At : Option Engaged → Type 0) where
   -- a task was begun
@@ -148,7 +148,7 @@ module _ (At : Option Engaged → Type 0) where
   IsReplied task reply = is_replied reply.stop task reply
 
 -- what a worker took: a task, nothing for now, or word that no work comes any more
-abbrev pub HasTaken : (Tally → Option Engaged → Type 0) → Tally → Type 0 → Took → Type 0
-HasTaken At tally Over (took.Work task) = HasBegun (At (begun tally)) task
-HasTaken At tally Over took.Wait = At tally None
-HasTaken At tally Over took.Over = Over
+abbrev pub HasTaken : (RoundCount → Option Engaged → Type 0) → RoundCount → Type 0 → Took → Type 0
+HasTaken At round_count Over (took.Work task) = HasBegun (At (begun round_count)) task
+HasTaken At round_count Over took.Wait = At round_count None
+HasTaken At round_count Over took.Over = Over

@@ -1,3 +1,3 @@
-pub mod Renewals
+pub mod Releases
 pub mod Engagements
 pub mod Workers

@@ -3,14 +3,14 @@ use Rattle.std.specs.Prelude.{◌≡◌, ◌⊎◌, ℕ, ◌+◌, ◌<◌, Bool,
 use Rattle.ug_base.specs.Tasks.{TaskState}
 use Rattle.ug_worker.specs.Engagements.{Engaged, IsDoneBy, IsRenewed, IsSince, Stands, due_of}
 use Rattle.ug_worker.specs.Engagements.{steps_of_round}
-use Rattle.ug_worker.specs.Renewals.{IsDue}
+use Rattle.ug_worker.specs.Releases.{IsDue}
 use Rattle.ug_worker.specs.declared.pace.Pace.{Pace}
 use Rattle.ug_worker.specs.declared.pace.Pace.TheVariants as pace
 use Rattle.ug_worker.specs.declared.search.Asked.{Asked}
 use Rattle.ug_worker.specs.declared.search.Search.{Search}
 use Rattle.ug_worker.specs.declared.search.Left.{Left}
 use Rattle.ug_worker.specs.declared.search.Left.TheVariants.{Nothing, Dropped, Wanting}
-use Rattle.ug_worker.specs.declared.tally.Tally.{Tally}
+use Rattle.ug_worker.specs.declared.round_count.RoundCount.{RoundCount}
 
 module _ (At : Option Engaged → Type 0) where
   -- `count` steps of the round are made, and this is asked for
@@ -45,16 +45,16 @@ module _ (At : Option Engaged → Type 0) where
   HasGiven false count task asked = HasHanded task asked
 
   -- then what is left is reported, unless the task is to be released
-  pub record IsToTell (tally : Tally) (task : TaskState) (asked : Asked) : Type 0 where
+  pub record IsToTell (round_count : RoundCount) (task : TaskState) (asked : Asked) : Type 0 where
     pub handed : HasHanded task asked
-    pub kept : ¬ IsDue tally asked.racing
+    pub kept : ¬ IsDue round_count asked.racing
 
   -- the task is to be renewed, and boxes are given until none is left
-  pub record IsGiving (tally : Tally) (task : TaskState) : Type 0 where
+  pub record IsGiving (round_count : RoundCount) (task : TaskState) : Type 0 where
     pub now : Engaged
     pub at : At (Some now)
     pub since : IsSince now task steps_of_round
-    pub renewed : IsRenewed tally now task
+    pub renewed : IsRenewed round_count now task
 
   -- the search of the task is over
   pub record IsSearched (task : TaskState) : Type 0 where
@@ -62,20 +62,20 @@ module _ (At : Option Engaged → Type 0) where
     pub at : At (Some now)
     pub done : IsDoneBy now task
 
-module _ (At : Tally → Option Engaged → Type 0) where
+module _ (At : RoundCount → Option Engaged → Type 0) where
   -- how it is left: `Nothing` means that no box is left
-  abbrev pub EndsAs : Tally → Left → TaskState → Type 0
-  EndsAs tally Nothing task = IsSearched (At tally) task
-  EndsAs tally Dropped task = At tally None
-  EndsAs tally Wanting task = Stands At
+  abbrev pub EndsAs : RoundCount → Left → TaskState → Type 0
+  EndsAs round_count Nothing task = IsSearched (At round_count) task
+  EndsAs round_count Dropped task = At round_count None
+  EndsAs round_count Wanting task = Stands At
 
   -- it stands to the task that it searches, if it has one, before a round
-  abbrev pub IsAtWork : Tally → Option Search → Type 0
-  IsAtWork tally None = At tally None
-  IsAtWork tally (Some search) = StandsAt (At search.tally) search.task 0 search.asked
+  abbrev pub IsAtWork : RoundCount → Option Search → Type 0
+  IsAtWork round_count None = At round_count None
+  IsAtWork round_count (Some search) = StandsAt (At search.round_count) search.task 0 search.asked
 
   -- so it is behind a step, or no work comes any more
-  abbrev pub HasPaced : Type 0 → Tally → Option Search → Pace → Type 0
-  HasPaced Over tally search pace.On = IsAtWork tally search
-  HasPaced Over tally search pace.Waits = (search ≡ None) × At tally None
-  HasPaced Over tally search pace.Over = Over
+  abbrev pub HasPaced : Type 0 → RoundCount → Option Search → Pace → Type 0
+  HasPaced Over round_count search pace.On = IsAtWork round_count search
+  HasPaced Over round_count search pace.Waits = (search ≡ None) × At round_count None
+  HasPaced Over round_count search pace.Over = Over

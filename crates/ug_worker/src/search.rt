@@ -4,12 +4,12 @@ ghost use Rattle.std.specs.Prelude.{◌≡◌, ◌<◌, ◌≤◌, ◌+◌, ◌*
 ghost use Rattle.ug_problem.specs.Better.{IsSmallCutoff};
 ghost use Rattle.ug_base.specs.Tasks.{IsLeastFloor, IsTask};
 ghost use Rattle.ug_worker.specs.Engagements.{HasBegun, IsReplied, Stands, due_by, lowered};
-ghost use Rattle.ug_worker.specs.Renewals.{IsDue};
+ghost use Rattle.ug_worker.specs.Releases.{IsDue};
 ghost use Rattle.ug_worker.specs.Workers.{EndsAs, HasHanded, HasStepped, HasGiven, HasMade, IsGiving, IsToTell, StandsAt};
 
 use crate::reply::Reply;
+use crate::round_count::RoundCount;
 use crate::seat::Seat;
-use crate::tally::Tally;
 use std::alloc::AllocError;
 use ug_base::{Step, Task};
 
@@ -42,7 +42,7 @@ pub struct Search {
     /// The task.
     pub task: Task,
     /// The rounds made.
-    pub tally: Tally,
+    pub round_count: RoundCount,
     /// The orders in force.
     pub asked: Asked,
 }
@@ -50,11 +50,11 @@ pub struct Search {
 impl Search {
     /// Begins a task: obeys what was ordered before its first round. Fails if the task ends here.
     pub fn begin<S: Seat>(&mut self, seat: &mut S) -> Result<(), Left>
-        requires { HasBegun (S.at seat.old self.old.tally) self.old.task }
+        requires { HasBegun (S.at seat.old self.old.round_count) self.old.task }
         ensures ok { OnOk result
-            (StandsAt (S.at seat.new self.new.tally) self.new.task 0 self.new.asked) }
+            (StandsAt (S.at seat.new self.new.round_count) self.new.task 0 self.new.asked) }
         ensures err { IfErr result
-            (λ left. EndsAs (S.at seat.new) self.new.tally left self.new.task) }
+            (λ left. EndsAs (S.at seat.new) self.new.round_count left self.new.task) }
         ensures home { S.home seat.new ≡ S.home seat.old }
     {
         let reply = seat.look();
@@ -64,11 +64,11 @@ impl Search {
     /// Makes a round of steps, then hands the boxes that are asked for and reports what is left, or
     /// releases the task. Fails if the task ends here.
     pub fn round<S: Seat>(&mut self, seat: &mut S) -> Result<(), Left>
-        requires { StandsAt (S.at seat.old self.old.tally) self.old.task 0 self.old.asked }
+        requires { StandsAt (S.at seat.old self.old.round_count) self.old.task 0 self.old.asked }
         ensures ok { OnOk result
-            (StandsAt (S.at seat.new self.new.tally) self.new.task 0 self.new.asked) }
+            (StandsAt (S.at seat.new self.new.round_count) self.new.task 0 self.new.asked) }
         ensures err { IfErr result
-            (λ left. EndsAs (S.at seat.new) self.new.tally left self.new.task) }
+            (λ left. EndsAs (S.at seat.new) self.new.round_count left self.new.task) }
         ensures home { S.home seat.new ≡ S.home seat.old }
     {
         self.know(seat);
@@ -80,16 +80,17 @@ impl Search {
         if self.hands(seat).is_err() {
             return Err(Left::Wanting);
         }
-        if self.tally.is_due(self.asked.racing) {
-            return Err(self.renew(seat));
+        if self.round_count.is_due(self.asked.racing) {
+            return Err(self.release(seat));
         }
         self.tell(seat)
     }
 
     // Uses a cutoff that the seat knows.
     fn know<S: Seat>(&mut self, seat: &mut S)
-        requires { StandsAt (S.at seat.old self.old.tally) self.old.task 0 self.old.asked }
-        ensures stands { StandsAt (S.at seat.new self.new.tally) self.new.task 0 self.new.asked }
+        requires { StandsAt (S.at seat.old self.old.round_count) self.old.task 0 self.old.asked }
+        ensures stands { StandsAt
+            (S.at seat.new self.new.round_count) self.new.task 0 self.new.asked }
         ensures home { S.home seat.new ≡ S.home seat.old }
     {
         let cutoff = seat.cutoff();
@@ -98,11 +99,11 @@ impl Search {
 
     // Makes the steps of a round, or fewer if no box is left.
     fn steps<S: Seat>(&mut self, seat: &mut S) -> Result<(), Left>
-        requires { StandsAt (S.at seat.old self.old.tally) self.old.task 0 self.old.asked }
+        requires { StandsAt (S.at seat.old self.old.round_count) self.old.task 0 self.old.asked }
         ensures ok { OnOk result
-            (HasStepped (S.at seat.new self.new.tally) self.new.task self.new.asked) }
+            (HasStepped (S.at seat.new self.new.round_count) self.new.task self.new.asked) }
         ensures err { IfErr result
-            (λ left. EndsAs (S.at seat.new) self.new.tally left self.new.task) }
+            (λ left. EndsAs (S.at seat.new) self.new.round_count left self.new.task) }
         ensures home { S.home seat.new ≡ S.home seat.old }
     {
         for made in 0..STEPS {
@@ -115,13 +116,14 @@ impl Search {
 
     // Makes a step and reports the point that it finds. Returns false if no box is left.
     fn step<S: Seat>(&mut self, seat: &mut S, made: u32) -> Result<bool, Left>
-        requires stands { StandsAt (S.at seat.old self.old.tally) self.old.task made self.old.asked }
+        requires stands { StandsAt
+            (S.at seat.old self.old.round_count) self.old.task made self.old.asked }
         requires room { made < 64 }
         ensures stands { IfOk result
-            (λ more. HasMade (S.at seat.new self.new.tally) more made self.new.task
+            (λ more. HasMade (S.at seat.new self.new.round_count) more made self.new.task
             self.new.asked) }
         ensures err { IfErr result
-            (λ left. EndsAs (S.at seat.new) self.new.tally left self.new.task) }
+            (λ left. EndsAs (S.at seat.new) self.new.round_count left self.new.task) }
         ensures home { S.home seat.new ≡ S.home seat.old }
     {
         let Ok(step) = self.task.step() else {
@@ -144,10 +146,11 @@ impl Search {
 
     // Hands as many boxes as are asked for, or fewer if only one is left.
     fn hands<S: Seat>(&mut self, seat: &mut S) -> Result<(), AllocError>
-        requires stands { StandsAt (S.at seat.old self.old.tally) self.old.task 64 self.old.asked }
+        requires stands { StandsAt
+            (S.at seat.old self.old.round_count) self.old.task 64 self.old.asked }
         requires left { 0 < length self.old.task.boxes }
         ensures ok { OnOk result
-            (HasHanded (S.at seat.new self.new.tally) self.new.task self.new.asked) }
+            (HasHanded (S.at seat.new self.new.round_count) self.new.task self.new.asked) }
         ensures err { OnErr result (Stands (S.at seat.new)) }
         ensures home { S.home seat.new ≡ S.home seat.old }
     {
@@ -161,10 +164,11 @@ impl Search {
 
     // Hands a box. Returns false if fewer than two are left.
     fn hand<S: Seat>(&mut self, seat: &mut S) -> Result<bool, AllocError>
-        requires stands { StandsAt (S.at seat.old self.old.tally) self.old.task 64 self.old.asked }
+        requires stands { StandsAt
+            (S.at seat.old self.old.round_count) self.old.task 64 self.old.asked }
         requires some { 0 < self.old.asked.count }
         requires left { 0 < length self.old.task.boxes }
-        ensures given { IfOk result (λ more. HasGiven (S.at seat.new self.new.tally) more
+        ensures given { IfOk result (λ more. HasGiven (S.at seat.new self.new.round_count) more
             self.old.asked.count self.new.task self.new.asked) }
         ensures err { OnErr result (Stands (S.at seat.new)) }
         ensures home { S.home seat.new ≡ S.home seat.old }
@@ -181,10 +185,11 @@ impl Search {
     }
 
     // Releases the task: hands over every box left.
-    fn renew<S: Seat>(&mut self, seat: &mut S) -> Left
-        requires handed { HasHanded (S.at seat.old self.old.tally) self.old.task self.old.asked }
-        requires due { IsDue self.old.tally self.old.asked.racing }
-        ensures ends { EndsAs (S.at seat.new) self.new.tally result self.new.task }
+    fn release<S: Seat>(&mut self, seat: &mut S) -> Left
+        requires handed { HasHanded
+            (S.at seat.old self.old.round_count) self.old.task self.old.asked }
+        requires due { IsDue self.old.round_count self.old.asked.racing }
+        ensures ends { EndsAs (S.at seat.new) self.new.round_count result self.new.task }
         ensures home { S.home seat.new ≡ S.home seat.old }
     {
         match self.give_all(seat) {
@@ -198,9 +203,10 @@ impl Search {
 
     // Hands over each box left, in order.
     fn give_all<S: Seat>(&mut self, seat: &mut S) -> Result<(), AllocError>
-        requires { IsGiving (S.at seat.old self.old.tally) self.old.tally self.old.task }
+        requires { IsGiving
+            (S.at seat.old self.old.round_count) self.old.round_count self.old.task }
         ensures given { OnOk result
-            (IsGiving (S.at seat.new self.new.tally) self.new.tally self.new.task) }
+            (IsGiving (S.at seat.new self.new.round_count) self.new.round_count self.new.task) }
         ensures none { OnOk result (self.new.task.boxes ≡ []) }
         ensures err { OnErr result (Stands (S.at seat.new)) }
         ensures home { S.home seat.new ≡ S.home seat.old }
@@ -213,10 +219,11 @@ impl Search {
 
     // Hands over the first box left.
     fn give<S: Seat>(&mut self, seat: &mut S) -> Result<(), AllocError>
-        requires giving { IsGiving (S.at seat.old self.old.tally) self.old.tally self.old.task }
+        requires giving { IsGiving
+            (S.at seat.old self.old.round_count) self.old.round_count self.old.task }
         requires left { 0 < length self.old.task.boxes }
         ensures given { OnOk result
-            (IsGiving (S.at seat.new self.new.tally) self.new.tally self.new.task) }
+            (IsGiving (S.at seat.new self.new.round_count) self.new.round_count self.new.task) }
         ensures less { OnOk result (length self.old.task.boxes ≡ length self.new.task.boxes + 1) }
         ensures err { OnErr result (Stands (S.at seat.new)) }
         ensures home { S.home seat.new ≡ S.home seat.old }
@@ -233,12 +240,12 @@ impl Search {
 
     // Reports what is left and obeys the answer.
     fn tell<S: Seat>(&mut self, seat: &mut S) -> Result<(), Left>
-        requires { IsToTell (S.at seat.old self.old.tally) self.old.tally self.old.task
+        requires { IsToTell (S.at seat.old self.old.round_count) self.old.round_count self.old.task
             self.old.asked }
         ensures ok { OnOk result
-            (StandsAt (S.at seat.new self.new.tally) self.new.task 0 self.new.asked) }
+            (StandsAt (S.at seat.new self.new.round_count) self.new.task 0 self.new.asked) }
         ensures err { IfErr result
-            (λ left. EndsAs (S.at seat.new) self.new.tally left self.new.task) }
+            (λ left. EndsAs (S.at seat.new) self.new.round_count left self.new.task) }
         ensures home { S.home seat.new ≡ S.home seat.old }
     {
         let left = self.task.left();
@@ -250,20 +257,21 @@ impl Search {
 
     // Reports the number of boxes left and the least of their floors.
     fn state<S: Seat>(&mut self, seat: &mut S, left: u64, floor: i128) -> Result<(), Left>
-        requires told { IsToTell (S.at seat.old self.old.tally) self.old.tally self.old.task
+        requires told { IsToTell
+            (S.at seat.old self.old.round_count) self.old.round_count self.old.task
             self.old.asked }
         requires count { left ≡ length self.old.task.boxes }
         requires least { IsLeastFloor self.old.task.problem self.old.task.boxes floor }
         requires value { unsigned_abs floor ≤ 2 * 10 ^ 37 }
         ensures ok { OnOk result
-            (StandsAt (S.at seat.new self.new.tally) self.new.task 0 self.new.asked) }
+            (StandsAt (S.at seat.new self.new.round_count) self.new.task 0 self.new.asked) }
         ensures err { IfErr result
-            (λ left. EndsAs (S.at seat.new) self.new.tally left self.new.task) }
+            (λ left. EndsAs (S.at seat.new) self.new.round_count left self.new.task) }
         ensures home { S.home seat.new ≡ S.home seat.old }
     {
         match seat.state(left, floor) {
             Ok(reply) => {
-                self.tally.count();
+                self.round_count.count();
                 self.obey(seat, reply)
             }
             Err(_) => Err(Left::Wanting),
@@ -272,12 +280,12 @@ impl Search {
 
     // Obeys the reply.
     fn obey<S: Seat>(&mut self, seat: &S, reply: Reply) -> Result<(), Left>
-        requires replied { IsReplied (S.at seat.now self.old.tally) self.old.task reply }
+        requires replied { IsReplied (S.at seat.now self.old.round_count) self.old.task reply }
         requires small { IsSmallCutoff reply.cutoff }
         ensures ok { OnOk result
-            (StandsAt (S.at seat.now self.new.tally) self.new.task 0 self.new.asked) }
+            (StandsAt (S.at seat.now self.new.round_count) self.new.task 0 self.new.asked) }
         ensures err { IfErr result
-            (λ left. EndsAs (S.at seat.now) self.new.tally left self.new.task) }
+            (λ left. EndsAs (S.at seat.now) self.new.round_count left self.new.task) }
     {
         let _seat = seat;
         if reply.stop {

@@ -2,25 +2,25 @@
 
 ghost use Rattle.std.specs.Prelude.{◌≡◌, None, IfErr, OnOk};
 ghost use Rattle.ug_worker.specs.Engagements.{HasBegun};
-ghost use Rattle.ug_worker.specs.Renewals.{begun, fresh};
+ghost use Rattle.ug_worker.specs.Releases.{begun, fresh};
 ghost use Rattle.ug_worker.specs.Workers.{EndsAs, HasPaced, IsAtWork, StandsAt};
 
 use crate::pace::Pace;
+use crate::round_count::{ReleasePolicy, RoundCount};
 use crate::search::{Asked, Left, Search};
 use crate::seat::Seat;
-use crate::tally::{Renewal, Tally};
 use crate::took::Took;
 use std::sync::Wait;
 use ug_base::Task;
 
 /// Works until no node is held, the limit of reports is reached, or memory runs out. Tasks are
-/// released by the rule `renewal`, or never.
-pub fn work<R: Wait, S: Seat>(rt: &R, seat: &mut S, renewal: Option<Renewal>)
-    requires { S.at seat.old (fresh renewal) None }
+/// released by the rule `policy`, or never.
+pub fn work<R: Wait, S: Seat>(rt: &R, seat: &mut S, policy: Option<ReleasePolicy>)
+    requires { S.at seat.old (fresh policy) None }
     ensures over { S.over seat.new }
     ensures home { S.home seat.new ≡ S.home seat.old }
 {
-    let mut worker = Worker::new(renewal);
+    let mut worker = Worker::new(policy);
     for _ in rt.forever() {
         match worker.step(seat) {
             Pace::On => {}
@@ -43,27 +43,28 @@ pub fn work<R: Wait, S: Seat>(rt: &R, seat: &mut S, renewal: Option<Renewal>)
 #[derive(Drop)]
 pub struct Worker {
     /// The rounds made.
-    pub tally: Tally,
+    pub round_count: RoundCount,
     /// The task, if there is one.
     pub search: Option<Search>,
 }
 
 impl Worker {
-    /// Returns a worker without rounds and without a task. It releases tasks by the rule `renewal`,
+    /// Returns a worker without rounds and without a task. It releases tasks by the rule `policy`,
     /// or never.
-    pub fn new(renewal: Option<Renewal>) -> Worker
-        ensures { result ≡ record { tally = fresh renewal; search = None } }
+    pub fn new(policy: Option<ReleasePolicy>) -> Worker
+        ensures { result ≡ record { round_count = fresh policy; search = None } }
     {
         Worker {
-            tally: Tally::new(renewal),
+            round_count: RoundCount::new(policy),
             search: None,
         }
     }
 
     /// Asks for work if it has no task, and otherwise makes a round of steps.
     pub fn step<S: Seat>(&mut self, seat: &mut S) -> Pace
-        requires { IsAtWork (S.at seat.old) self.old.tally self.old.search }
-        ensures paced { HasPaced (S.at seat.new) (S.over seat.new) self.new.tally self.new.search result }
+        requires { IsAtWork (S.at seat.old) self.old.round_count self.old.search }
+        ensures paced { HasPaced (S.at seat.new)
+            (S.over seat.new) self.new.round_count self.new.search result }
         ensures home { S.home seat.new ≡ S.home seat.old }
     {
         match self.search.take() {
@@ -74,8 +75,9 @@ impl Worker {
 
     // Makes a round of steps.
     fn go_on<S: Seat>(&mut self, seat: &mut S, mut search: Search) -> Pace
-        requires { StandsAt (S.at seat.old search.tally) search.task 0 search.asked }
-        ensures paced { HasPaced (S.at seat.new) (S.over seat.new) self.new.tally self.new.search result }
+        requires { StandsAt (S.at seat.old search.round_count) search.task 0 search.asked }
+        ensures paced { HasPaced (S.at seat.new)
+            (S.over seat.new) self.new.round_count self.new.search result }
         ensures home { S.home seat.new ≡ S.home seat.old }
     {
         let went = search.round(seat);
@@ -84,9 +86,10 @@ impl Worker {
 
     // Asks for work.
     fn take<S: Seat>(&mut self, seat: &mut S) -> Pace
-        requires at { S.at seat.old self.old.tally None }
+        requires at { S.at seat.old self.old.round_count None }
         requires none { self.old.search ≡ None }
-        ensures paced { HasPaced (S.at seat.new) (S.over seat.new) self.new.tally self.new.search result }
+        ensures paced { HasPaced (S.at seat.new)
+            (S.over seat.new) self.new.round_count self.new.search result }
         ensures home { S.home seat.new ≡ S.home seat.old }
     {
         match seat.take() {
@@ -102,14 +105,15 @@ impl Worker {
 
     // Begins a task.
     fn begin<S: Seat>(&mut self, seat: &mut S, task: Task) -> Pace
-        requires { HasBegun (S.at seat.old (begun self.old.tally)) task }
-        ensures paced { HasPaced (S.at seat.new) (S.over seat.new) self.new.tally self.new.search result }
+        requires { HasBegun (S.at seat.old (begun self.old.round_count)) task }
+        ensures paced { HasPaced (S.at seat.new)
+            (S.over seat.new) self.new.round_count self.new.search result }
         ensures home { S.home seat.new ≡ S.home seat.old }
     {
-        self.tally.begin();
+        self.round_count.begin();
         let mut search = Search {
             task,
-            tally: self.tally,
+            round_count: self.round_count,
             asked: Asked {
                 count: 0,
                 racing: true,
@@ -121,12 +125,15 @@ impl Worker {
 
     // Keeps the task, or leaves one that has ended.
     fn keep<S: Seat>(&mut self, seat: &mut S, search: Search, went: Result<(), Left>) -> Pace
-        requires ok { OnOk went (StandsAt (S.at seat.old search.tally) search.task 0 search.asked) }
-        requires err { IfErr went (λ left. EndsAs (S.at seat.old) search.tally left search.task) }
-        ensures paced { HasPaced (S.at seat.new) (S.over seat.new) self.new.tally self.new.search result }
+        requires ok { OnOk went
+            (StandsAt (S.at seat.old search.round_count) search.task 0 search.asked) }
+        requires err { IfErr went
+            (λ left. EndsAs (S.at seat.old) search.round_count left search.task) }
+        ensures paced { HasPaced (S.at seat.new)
+            (S.over seat.new) self.new.round_count self.new.search result }
         ensures home { S.home seat.new ≡ S.home seat.old }
     {
-        self.tally = search.tally;
+        self.round_count = search.round_count;
         match went {
             Ok(()) => {
                 drop(self.search.replace(search));
@@ -142,8 +149,9 @@ impl Worker {
 
     // Leaves a task.
     fn leave<S: Seat>(&self, seat: &mut S, task: Task, left: Left) -> Pace
-        requires { EndsAs (S.at seat.old) self.now.tally left task }
-        ensures paced { HasPaced (S.at seat.new) (S.over seat.new) self.now.tally None result }
+        requires { EndsAs (S.at seat.old) self.now.round_count left task }
+        ensures paced { HasPaced (S.at seat.new)
+            (S.over seat.new) self.now.round_count None result }
         ensures home { S.home seat.new ≡ S.home seat.old }
     {
         match left {

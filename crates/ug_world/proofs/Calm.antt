@@ -56,33 +56,33 @@ AreQuiet actions = (action : Action) → Contains actions action → IsQuietActi
 
 -- ---- if memory ran out it is
 
-wanted : (old new : CoordinatorState) → new.wants ≡ true → new.wants ≡ false → old.wants ≡ false
+wanted : (old new : CoordinatorState) → new.out_of_memory ≡ true → new.out_of_memory ≡ false → old.out_of_memory ≡ false
 wanted old new is none = absurd (false≢true (sym none ∙ is))
 
-wants_back : (old : CoordinatorState) (action : Action) (new : CoordinatorState) → NextState old action new → new.wants ≡ false
-    → old.wants ≡ false
-wants_back old (Launched rank) new does none = sym (ap (λ (s : CoordinatorState). s.wants) does.1) ∙ none
-wants_back old (SetUp rank bytes) new does none = sym (ap (λ (s : CoordinatorState). s.wants) does.rest) ∙ none
-wants_back old (Closed rank) new does none = sym (ap (λ (s : CoordinatorState). s.wants) does.rest) ∙ none
-wants_back old (Came rank bytes) new does none = sym (ap (λ (s : CoordinatorState). s.wants) does.rest) ∙ none
-wants_back old (Took rank report answer) new does none = does.wants.before none
-wants_back old (Lost rank cause) new does none = sym does.wants ∙ none
-wants_back old Decided new does none = sym (ap (λ (s : CoordinatorState). s.wants) does.rest) ∙ none
-wants_back old (Sent rank order) new does none = sym (ap (λ (s : CoordinatorState). s.wants) does.rest) ∙ none
-wants_back old (Unsent rank order) new does none = sym (ap (λ (s : CoordinatorState). s.wants) does.rest) ∙ none
-wants_back old (Passed rank order) new does none = sym (ap (λ (s : CoordinatorState). s.wants) does.rest) ∙ none
-wants_back old Broke new does none = sym (ap (λ (s : CoordinatorState). s.wants) does.rest) ∙ none
-wants_back old (Unclosed rank) new does none = sym (ap (λ (s : CoordinatorState). s.wants) does.rest) ∙ none
-wants_back old (Halted steps) new does none = wanted old new (ap (λ (s : CoordinatorState). s.wants) does.rest) none
+wants_back : (old : CoordinatorState) (action : Action) (new : CoordinatorState) → NextState old action new → new.out_of_memory ≡ false
+    → old.out_of_memory ≡ false
+wants_back old (Launched rank) new does none = sym (ap (λ (s : CoordinatorState). s.out_of_memory) does.1) ∙ none
+wants_back old (SetUp rank bytes) new does none = sym (ap (λ (s : CoordinatorState). s.out_of_memory) does.rest) ∙ none
+wants_back old (Closed rank) new does none = sym (ap (λ (s : CoordinatorState). s.out_of_memory) does.rest) ∙ none
+wants_back old (Came rank bytes) new does none = sym (ap (λ (s : CoordinatorState). s.out_of_memory) does.rest) ∙ none
+wants_back old (Took rank report answer) new does none = does.out_of_memory.before none
+wants_back old (Lost rank cause) new does none = sym does.out_of_memory ∙ none
+wants_back old Decided new does none = sym (ap (λ (s : CoordinatorState). s.out_of_memory) does.rest) ∙ none
+wants_back old (Sent rank order) new does none = sym (ap (λ (s : CoordinatorState). s.out_of_memory) does.rest) ∙ none
+wants_back old (Unsent rank order) new does none = sym (ap (λ (s : CoordinatorState). s.out_of_memory) does.rest) ∙ none
+wants_back old (Passed rank order) new does none = sym (ap (λ (s : CoordinatorState). s.out_of_memory) does.rest) ∙ none
+wants_back old Broke new does none = sym (ap (λ (s : CoordinatorState). s.out_of_memory) does.rest) ∙ none
+wants_back old (Unclosed rank) new does none = sym (ap (λ (s : CoordinatorState). s.out_of_memory) does.rest) ∙ none
+wants_back old (Halted steps) new does none = wanted old new (ap (λ (s : CoordinatorState). s.out_of_memory) does.rest) none
 wants_back old (Unwritten rank order) new does none =
-    wanted old new (ap (λ (s : CoordinatorState). s.wants) does.rest) none
-wants_back old (Unfed rank bytes) new does none = wanted old new (ap (λ (s : CoordinatorState). s.wants) does.rest) none
-wants_back old Unread new does none = wanted old new (ap (λ (s : CoordinatorState). s.wants) does.1) none
-wants_back old Saved new does none = sym (ap (λ (s : CoordinatorState). s.wants) does.rest) ∙ none
+    wanted old new (ap (λ (s : CoordinatorState). s.out_of_memory) does.rest) none
+wants_back old (Unfed rank bytes) new does none = wanted old new (ap (λ (s : CoordinatorState). s.out_of_memory) does.rest) none
+wants_back old Unread new does none = wanted old new (ap (λ (s : CoordinatorState). s.out_of_memory) does.1) none
+wants_back old Saved new does none = sym (ap (λ (s : CoordinatorState). s.out_of_memory) does.rest) ∙ none
 
-trace_wants : (old : CoordinatorState) (actions : List Action) (new : CoordinatorState) → IsTrace old actions new → new.wants ≡ false
-    → old.wants ≡ false
-trace_wants old [] new same none = sym (ap (λ (s : CoordinatorState). s.wants) same) ∙ none
+trace_wants : (old : CoordinatorState) (actions : List Action) (new : CoordinatorState) → IsTrace old actions new → new.out_of_memory ≡ false
+    → old.out_of_memory ≡ false
+trace_wants old [] new same none = sym (ap (λ (s : CoordinatorState). s.out_of_memory) same) ∙ none
 trace_wants old (action ∷ actions) new (mid, does, more) none =
     wants_back old action mid does (trace_wants mid actions new more none)
 
@@ -90,7 +90,7 @@ trace_wants old (action ∷ actions) new (mid, does, more) none =
 
 -- no turn failed, and no stream is shut or bad
 record IsFine (s : CoordinatorState) : Type 0 where
-  whole : s.broken ≡ false
+  whole : s.link_failed ≡ false
   streams : (rank : ℕ) → (stream_at s rank).bad ≡ false
 
 -- the bytes that wait of a rank can be read
@@ -101,7 +101,7 @@ IsReadable s = (rank : ℕ) → IsDecoded reports.IsCarried reports.spelled (str
 record IsCalmAction (old new : CoordinatorState) : Type 0 where
   small : old.faults < 2 ^ 64 - 1
   calm : new.faults ≤ old.faults
-  memory : new.wants ≡ false
+  memory : new.out_of_memory ≡ false
 
 no_rise : (old new : ℕ) → old < 2 ^ 64 - 1 → new ≤ old → Rose old new → ⊥
 no_rise old new small calm (inl less) = omega (arith, calm, less)
@@ -116,17 +116,17 @@ set_fine (s ∷ streams) (suc at) w zero fine was = was
 set_fine (s ∷ streams) (suc at) w (suc rank) fine was = set_fine streams at w rank fine was
 
 -- nothing came
-still_fine : (old new : CoordinatorState) → new.broken ≡ old.broken → new.streams ≡ old.streams → IsFine old → IsFine new
-still_fine old new broken streams fine = record {
-  whole = broken ∙ fine.whole;
+still_fine : (old new : CoordinatorState) → new.link_failed ≡ old.link_failed → new.streams ≡ old.streams → IsFine old → IsFine new
+still_fine old new link_failed streams fine = record {
+  whole = link_failed ∙ fine.whole;
   streams = λ rank. ap (λ (l : List Waiting). (slice_index_or l rank first).bad) streams ∙ fine.streams rank;
 }
 
 -- a stream was set
-set_still : (old new : CoordinatorState) (at : ℕ) (w : Waiting) → new.broken ≡ old.broken
+set_still : (old new : CoordinatorState) (at : ℕ) (w : Waiting) → new.link_failed ≡ old.link_failed
     → new.streams ≡ slice_set old.streams at w → w.bad ≡ false → IsFine old → IsFine new
-set_still old new at w broken streams good fine = record {
-  whole = broken ∙ fine.whole;
+set_still old new at w link_failed streams good fine = record {
+  whole = link_failed ∙ fine.whole;
   streams = λ rank. ap (λ (l : List Waiting). (slice_index_or l rank first).bad) streams
       ∙ set_fine old.streams at w rank good (fine.streams rank);
 }
@@ -150,54 +150,54 @@ GoesOn action new = IsQuietAction action × IsFine new
 goes_on : (old : CoordinatorState) (action : Action) (new : CoordinatorState) → NextState old action new → IsCalmAction old new
     → IsReadable old → IsFine old → GoesOn action new
 goes_on old (Launched rank) new does c readable fine =
-    (tt, still_fine old new (ap (λ (s : CoordinatorState). s.broken) does.1) (ap (λ (s : CoordinatorState). s.streams) does.1) fine)
+    (tt, still_fine old new (ap (λ (s : CoordinatorState). s.link_failed) does.1) (ap (λ (s : CoordinatorState). s.streams) does.1) fine)
 goes_on old (SetUp rank bytes) new does c readable fine = (
   tt,
-  still_fine old new (ap (λ (s : CoordinatorState). s.broken) does.rest) (ap (λ (s : CoordinatorState). s.streams) does.rest) fine,
+  still_fine old new (ap (λ (s : CoordinatorState). s.link_failed) does.rest) (ap (λ (s : CoordinatorState). s.streams) does.rest) fine,
 )
 goes_on old (Closed rank) new does c readable fine = (
   tt,
-  still_fine old new (ap (λ (s : CoordinatorState). s.broken) does.rest) (ap (λ (s : CoordinatorState). s.streams) does.rest) fine,
+  still_fine old new (ap (λ (s : CoordinatorState). s.link_failed) does.rest) (ap (λ (s : CoordinatorState). s.streams) does.rest) fine,
 )
 goes_on old (Came rank bytes) new does c readable fine = (
   tt,
-  set_still old new rank (fed (stream_at old rank) bytes) (ap (λ (s : CoordinatorState). s.broken) does.rest)
+  set_still old new rank (fed (stream_at old rank) bytes) (ap (λ (s : CoordinatorState). s.link_failed) does.rest)
       (ap (λ (s : CoordinatorState). s.streams) does.rest) (fed_fine (stream_at old rank) bytes (fine.streams rank)) fine,
 )
 goes_on old (Took rank report answer) new does c readable fine = (
-  does.wants.now c.memory,
-  set_still old new rank does.stream (ap (λ (s : CoordinatorState). s.broken) does.rest)
+  does.out_of_memory.now c.memory,
+  set_still old new rank does.stream (ap (λ (s : CoordinatorState). s.link_failed) does.rest)
       (ap (λ (s : CoordinatorState). s.streams) does.rest) does.given.still fine,
 )
 goes_on old (Lost rank cause) new does c readable fine =
     absurd (none_lost old new rank cause does.why c readable fine)
 goes_on old Decided new does c readable fine = (
   tt,
-  still_fine old new (ap (λ (s : CoordinatorState). s.broken) does.rest) (ap (λ (s : CoordinatorState). s.streams) does.rest) fine,
+  still_fine old new (ap (λ (s : CoordinatorState). s.link_failed) does.rest) (ap (λ (s : CoordinatorState). s.streams) does.rest) fine,
 )
 goes_on old (Sent rank order) new does c readable fine = (
   tt,
-  still_fine old new (ap (λ (s : CoordinatorState). s.broken) does.rest) (ap (λ (s : CoordinatorState). s.streams) does.rest) fine,
+  still_fine old new (ap (λ (s : CoordinatorState). s.link_failed) does.rest) (ap (λ (s : CoordinatorState). s.streams) does.rest) fine,
 )
 goes_on old (Unsent rank order) new does c readable fine =
     absurd (no_rise old.faults new.faults c.small c.calm does.faults)
 goes_on old (Passed rank order) new does c readable fine = (
   tt,
-  still_fine old new (ap (λ (s : CoordinatorState). s.broken) does.rest) (ap (λ (s : CoordinatorState). s.streams) does.rest) fine,
+  still_fine old new (ap (λ (s : CoordinatorState). s.link_failed) does.rest) (ap (λ (s : CoordinatorState). s.streams) does.rest) fine,
 )
 goes_on old Broke new does c readable fine = absurd (no_rise old.faults new.faults c.small c.calm does.faults)
 goes_on old (Unclosed rank) new does c readable fine =
     absurd (no_rise old.faults new.faults c.small c.calm does.faults)
 goes_on old (Halted steps) new does c readable fine =
-    absurd (false≢true (sym c.memory ∙ ap (λ (s : CoordinatorState). s.wants) does.rest))
+    absurd (false≢true (sym c.memory ∙ ap (λ (s : CoordinatorState). s.out_of_memory) does.rest))
 goes_on old (Unwritten rank order) new does c readable fine =
-    absurd (false≢true (sym c.memory ∙ ap (λ (s : CoordinatorState). s.wants) does.rest))
+    absurd (false≢true (sym c.memory ∙ ap (λ (s : CoordinatorState). s.out_of_memory) does.rest))
 goes_on old (Unfed rank bytes) new does c readable fine =
-    absurd (false≢true (sym c.memory ∙ ap (λ (s : CoordinatorState). s.wants) does.rest))
+    absurd (false≢true (sym c.memory ∙ ap (λ (s : CoordinatorState). s.out_of_memory) does.rest))
 goes_on old Unread new does c readable fine =
-    absurd (false≢true (sym c.memory ∙ ap (λ (s : CoordinatorState). s.wants) does.1))
+    absurd (false≢true (sym c.memory ∙ ap (λ (s : CoordinatorState). s.out_of_memory) does.1))
 goes_on old Saved new does c readable fine =
-    (tt, still_fine old new (ap (λ (s : CoordinatorState). s.broken) does.rest) (ap (λ (s : CoordinatorState). s.streams) does.rest) fine)
+    (tt, still_fine old new (ap (λ (s : CoordinatorState). s.link_failed) does.rest) (ap (λ (s : CoordinatorState). s.streams) does.rest) fine)
 
 -- ---- a course
 
@@ -223,7 +223,7 @@ module _ (b : BookState) (faults : ℕ) (unused : IsUnused b) (said : List Excha
 
   all_quiet : (done : List Action) (old : CoordinatorState) (actions : List Action) (new : CoordinatorState)
       → IsTrace (beginning b faults) done old → IsTrace old actions new → said ≡ new.said
-      → old.faults < 2 ^ 64 - 1 → new.faults ≤ old.faults → new.wants ≡ false → IsFine old → AreQuiet actions
+      → old.faults < 2 ^ 64 - 1 → new.faults ≤ old.faults → new.out_of_memory ≡ false → IsFine old → AreQuiet actions
   all_quiet done old [] new so same ends small calm memory fine = none_quiet
   all_quiet done old (action ∷ actions) new so (mid, does, rest) ends small calm memory fine =
       let so_far = trace_more (beginning b faults) done old mid action so does in

@@ -90,7 +90,7 @@ module _ (o : Opening) (end : End) (before : ℕ) (after : CrewSeen) (said : Lis
         away = unjoined o.settings.solvers;
         worked = was_said worked;
         calm = subst (IsCalm before) (sym h.failed) calm;
-        memory = stranded_wants (h.now.wants ≡ false) end h.wants stranded;
+        memory = stranded_wants (h.now.out_of_memory ≡ false) end h.out_of_memory stranded;
       }) 0
       (h.causes 0 (omega (arith, opening.settings.some, length-replicate o.settings.solvers Absent))
       (dead_anyway h.now.book 0 (stranded_dead end h.now.book h.ended stranded)))

@@ -18,7 +18,7 @@ pub record IsCalmTrace (b : BookState) (faults : ℕ) (now : CoordinatorState) :
   pub away : (rank : ℕ) → is_joined (state_at b.ranks rank) ≡ false
   pub worked : AreAlwaysWorked now.said
   pub calm : IsCalm faults now.faults
-  pub memory : now.wants ≡ false
+  pub memory : now.out_of_memory ≡ false
 
 -- Then no action takes a rank for gone: no bytes that come are bad, and no answer to a report is
 -- its death.

@@ -3,35 +3,35 @@ use Rattle.ug_rules.specs.declared.settings.Settings.{Settings}
 use Rattle.ug_coord.proofs.Ends.{stranded}
 use Rattle.ug_coord.proofs.solving.end_of.Goals as goal
 
-pub returns-then-wants-clause-ended : goal.returns-then-wants-clause-ended
-returns-then-wants-clause-ended c = tt
+pub returns-then-out_of_memory-clause-ended : goal.returns-then-out_of_memory-clause-ended
+returns-then-out_of_memory-clause-ended c = tt
 
-pub returns-then-wants-clause-lacks : goal.returns-then-wants-clause-lacks
-returns-then-wants-clause-lacks c = tt
+pub returns-then-out_of_memory-clause-lacks : goal.returns-then-out_of_memory-clause-lacks
+returns-then-out_of_memory-clause-lacks c = tt
 
-pub returns-then-wants-clause-feasible : goal.returns-then-wants-clause-feasible
-returns-then-wants-clause-feasible c = tt
+pub returns-then-out_of_memory-clause-feasible : goal.returns-then-out_of_memory-clause-feasible
+returns-then-out_of_memory-clause-feasible c = tt
 
-pub returns-then-wants-clause-right : goal.returns-then-wants-clause-right
-returns-then-wants-clause-right c = tt
+pub returns-then-out_of_memory-clause-right : goal.returns-then-out_of_memory-clause-right
+returns-then-out_of_memory-clause-right c = tt
 
 pub returns-then-is_answered-clause-ended : goal.returns-then-is_answered-clause-ended
 returns-then-is_answered-clause-ended c = (refl, c.if-is_answered.ensures.none)
 
 pub returns-then-is_answered-clause-lacks : goal.returns-then-is_answered-clause-lacks
-returns-then-is_answered-clause-lacks c = c.if-wants.false
+returns-then-is_answered-clause-lacks c = c.if-out_of_memory.false
 
 pub returns-then-is_answered-clause-right : goal.returns-then-is_answered-clause-right
 returns-then-is_answered-clause-right c = c.if-is_answered.ensures.right refl
 
 pub returns-then-settings-heard-clause-lacks : goal.returns-then-settings-heard-clause-lacks
-returns-then-settings-heard-clause-lacks c = c.if-wants.false
+returns-then-settings-heard-clause-lacks c = c.if-out_of_memory.false
 
 pub returns-then-settings-heard-clause-right : goal.returns-then-settings-heard-clause-right
 returns-then-settings-heard-clause-right c = tt
 
 pub returns-clause-lacks : goal.returns-clause-lacks
-returns-clause-lacks c = c.if-wants.false
+returns-clause-lacks c = c.if-out_of_memory.false
 
 pub returns-clause-right : goal.returns-clause-right
 returns-clause-right c = tt
@@ -66,7 +66,7 @@ returns-clause-ended c = (
         c.heard.ensures,
         ap (λ (s : Settings). s.limit) c.settings.ensures.value,
       ))
-      (c.requires c.if-wants.false),
+      (c.requires c.if-out_of_memory.false),
 )
 
 pub returns-clause-feasible : goal.returns-clause-feasible

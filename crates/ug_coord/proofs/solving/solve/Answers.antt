@@ -67,7 +67,7 @@ returns-clause-coordinated g c =
       made = subst IsBook c.in-Ok.ensures.book c.in-Ok.ensures.made;
       ended = subst (λ e. is_ended e c.run.new.self.book) (sym c.conclude-outcome.ensures.end)
           c.end_of-end.ensures.ended;
-      lacks = subst (λ e. IfBook e (λ own. c.run.new.self.wants ≡ false)) (sym c.conclude-outcome.ensures.end)
+      lacks = subst (λ e. IfBook e (λ own. c.run.new.self.out_of_memory ≡ false)) (sym c.conclude-outcome.ensures.end)
           c.end_of-end.ensures.lacks;
       same = run_on b _ c.run.new.self.book (same_of b _ c.in-Ok.ensures.book)
           c.run.ensures.kept.same;

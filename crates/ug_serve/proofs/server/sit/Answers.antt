@@ -4,7 +4,7 @@ use mir.Syntax.{w128}
 use mir.Val.{of_z, to_z}
 use Rattle.ug_serve.specs.Actions.{Free}
 use Rattle.ug_serve.specs.SeatViews.{seat_seen}
-use Rattle.ug_worker.specs.Renewals.{fresh, usual}
+use Rattle.ug_worker.specs.Releases.{fresh, usual}
 use Rattle.ug_serve.specs.Seats.{IsSeated}
 use Rattle.ug_serve.specs.Actions.{Basis, SetUp}
 use Rattle.ug_serve.proofs.server.sit.Goals as goal

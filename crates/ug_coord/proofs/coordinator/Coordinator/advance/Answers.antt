@@ -31,16 +31,16 @@ pub step-requires-clause-more : goal.step-requires-clause-more
 step-requires-clause-more g c κs within = c.requires.more
 
 pub returns-then-not-step-clause-over : goal.returns-then-not-step-clause-over
-returns-then-not-step-clause-over g c same wants = c.if-not-step.ensures.over refl wants
+returns-then-not-step-clause-over g c same out_of_memory = c.if-not-step.ensures.over refl out_of_memory
 
 pub save-requires-clause-due : goal.save-requires-clause-due
 save-requires-clause-due g c = c.if-is_due.ensures
 
 pub returns-then-is_due-clause-over : goal.returns-then-is_due-clause-over
-returns-then-is_due-clause-over g c same wants = absurd (false≢true (sym same))
+returns-then-is_due-clause-over g c same out_of_memory = absurd (false≢true (sym same))
 
 pub returns-else-is_due-clause-over : goal.returns-else-is_due-clause-over
-returns-else-is_due-clause-over g c same wants = absurd (false≢true (sym same))
+returns-else-is_due-clause-over g c same out_of_memory = absurd (false≢true (sym same))
 
 pub step-requires-clause-saved : goal.step-requires-clause-saved
 step-requires-clause-saved g c κs within = c.requires.keeps.saved

@@ -8,7 +8,7 @@ pub loop-rank-init : goal.loop-rank-init
 loop-rank-init g c = record {
   closed = λ from old new k. none_closed from (coordinator_seen g.C.Crew.seen c.args.self.now) old new k;
   book = search rules;
-  wants = search rules;
+  out_of_memory = search rules;
   pacing = search rules;
 }
 
@@ -18,7 +18,7 @@ loop-rank-preserved g c = record {
       (λ (n : ℕ). IsClosedBelow n from (coordinator_seen g.C.Crew.seen c.end.new.self) old new) (omega arith)
       (c.end.ensures.closed from old new (c.loop-rank.invariant.closed from old new k));
   book = c.end.ensures.same.0 ∙ c.loop-rank.invariant.book;
-  wants = c.end.ensures.same.1 ∙ c.loop-rank.invariant.wants;
+  out_of_memory = c.end.ensures.same.1 ∙ c.loop-rank.invariant.out_of_memory;
   pacing = c.end.ensures.pacing ∙ c.loop-rank.invariant.pacing;
 }
 

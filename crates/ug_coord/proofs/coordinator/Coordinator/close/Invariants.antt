@@ -11,6 +11,6 @@ invariant-loop-rank g l = record {
       → IsKeptIn AnyPhase from (coordinator_seen g.C.Crew.seen l.initial.self) old new
       → IsClosedBelow l.rank from (coordinator_seen g.C.Crew.seen l.self) old new;
   book : l.self.book ≡ l.initial.self.book;
-  wants : l.self.wants ≡ l.initial.self.wants;
+  out_of_memory : l.self.out_of_memory ≡ l.initial.self.out_of_memory;
   pacing : l.self.pacing ≡ l.initial.self.pacing;
 }

@@ -34,7 +34,7 @@ loop-preserved g c = record {
 }
 
 pub returns-then-not-advance-clause-over : goal.returns-then-not-advance-clause-over
-returns-then-not-advance-clause-over g c wants = c.if-not-advance.ensures.over refl wants
+returns-then-not-advance-clause-over g c out_of_memory = c.if-not-advance.ensures.over refl out_of_memory
 
 pub loop-init : goal.loop-init
 loop-init g c = record {
@@ -48,7 +48,7 @@ loop-init g c = record {
 }
 
 pub returns-then-has_stopped-clause-over : goal.returns-then-has_stopped-clause-over
-returns-then-has_stopped-clause-over g c wants = c.if-has_stopped.ensures.stopped refl wants
+returns-then-has_stopped-clause-over g c out_of_memory = c.if-has_stopped.ensures.stopped refl out_of_memory
 
 pub advance-requires-clause-more : goal.advance-requires-clause-more
 advance-requires-clause-more g c κs within = (c.if-has_stopped.ensures.on refl).1

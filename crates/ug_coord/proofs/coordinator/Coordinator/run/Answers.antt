@@ -38,8 +38,8 @@ returns-clause-ends g c from (phase, is, k) same =
     ))))
 
 pub returns-clause-over : goal.returns-clause-over
-returns-clause-over g c wants =
-    subst IsOver (sym c.close.ensures.same.0) (c.go_on.ensures.over (sym c.close.ensures.same.1 ∙ wants))
+returns-clause-over g c out_of_memory =
+    subst IsOver (sym c.close.ensures.same.0) (c.go_on.ensures.over (sym c.close.ensures.same.1 ∙ out_of_memory))
 
 pub go_on-requires-clause-keeps : goal.go_on-requires-clause-keeps
 go_on-requires-clause-keeps g c κs within =

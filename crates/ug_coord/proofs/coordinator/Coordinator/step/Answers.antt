@@ -57,14 +57,14 @@ pub returns-then-has_stopped-clause-hears : goal.returns-then-has_stopped-clause
 returns-then-has_stopped-clause-hears g c = c.decide.ensures.quiet
 
 pub returns-then-has_stopped-clause-over : goal.returns-then-has_stopped-clause-over
-returns-then-has_stopped-clause-over g c same wants = c.if-has_stopped.ensures.stopped refl wants
+returns-then-has_stopped-clause-over g c same out_of_memory = c.if-has_stopped.ensures.stopped refl out_of_memory
 
 pub returns-then-has_stopped-2-clause-over : goal.returns-then-has_stopped-2-clause-over
-returns-then-has_stopped-2-clause-over g c same wants =
-    c.if-has_stopped-2.ensures.stopped refl wants
+returns-then-has_stopped-2-clause-over g c same out_of_memory =
+    c.if-has_stopped-2.ensures.stopped refl out_of_memory
 
 pub returns-clause-over : goal.returns-clause-over
-returns-clause-over g c same wants = inr (inr (c.listen.ensures.all same))
+returns-clause-over g c same out_of_memory = inr (inr (c.listen.ensures.all same))
 
 pub listen-requires-clause-settled : goal.listen-requires-clause-settled
 listen-requires-clause-settled g c κs within = record {

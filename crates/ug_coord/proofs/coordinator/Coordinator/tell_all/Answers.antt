@@ -30,7 +30,7 @@ pub returns-then-self-clause-quiet : goal.returns-then-self-clause-quiet
 returns-then-self-clause-quiet g c = c.loop.invariant.quiet
 
 pub returns-then-self-clause-all : goal.returns-then-self-clause-all
-returns-then-self-clause-all g c wants = absurd (false≢true (sym wants ∙ c.if-self.true))
+returns-then-self-clause-all g c out_of_memory = absurd (false≢true (sym out_of_memory ∙ c.if-self.true))
 
 pub returns-then-not-tell_next-clause-on : goal.returns-then-not-tell_next-clause-on
 returns-then-not-tell_next-clause-on g c phase from on =
@@ -42,7 +42,7 @@ returns-then-not-tell_next-clause-quiet g c =
     (coordinator_seen g.C.Crew.seen c.tell_next.new.self) c.loop.invariant.quiet c.tell_next.ensures.quiet
 
 pub returns-then-not-tell_next-clause-all : goal.returns-then-not-tell_next-clause-all
-returns-then-not-tell_next-clause-all g c wants = c.if-not-tell_next.ensures.none refl
+returns-then-not-tell_next-clause-all g c out_of_memory = c.if-not-tell_next.ensures.none refl
 
 pub loop-preserved : goal.loop-preserved
 loop-preserved g c = record {

@@ -22,7 +22,7 @@ read_rests false from h new goes on =
 
 pub lose_all-requires : goal.lose_all-requires
 lose_all-requires g c =
-    let broken : HasBroken (g.C.Crew.seen c.args.self.now.crew) (g.C.Crew.seen c.take_turn.new.crew)
+    let link_failed : HasBroken (g.C.Crew.seen c.args.self.now.crew) (g.C.Crew.seen c.take_turn.new.crew)
     c.args.self.now.streams.items c.take_turn.new.streams =
     subst (λ (l : List Waiting). HasBroken (g.C.Crew.seen c.args.self.now.crew)
     (g.C.Crew.seen c.take_turn.new.crew) l c.take_turn.new.streams) c.deref_mut.ensures.value
@@ -34,7 +34,7 @@ lose_all-requires g c =
             (broken_whole c.args.self.now.streams.len (g.C.Crew.seen c.args.self.now.crew)
             (g.C.Crew.seen c.take_turn.new.crew)
             c.args.self.now.streams.items c.take_turn.new.streams
-            (as_long c.deref_mut.ensures.value c.deref_mut.ensures.len) broken) refl refl refl
+            (as_long c.deref_mut.ensures.value c.deref_mut.ensures.len) link_failed) refl refl refl
             c.requires.on.1,
       );
     }
@@ -83,7 +83,7 @@ returns-in-Gone-clause-on g c from on =
 
 pub returns-in-Failed-clause-on : goal.returns-in-Failed-clause-on
 returns-in-Failed-clause-on g c from on =
-    let broken : HasBroken (g.C.Crew.seen c.args.self.now.crew) (g.C.Crew.seen c.take_turn.new.crew)
+    let link_failed : HasBroken (g.C.Crew.seen c.args.self.now.crew) (g.C.Crew.seen c.take_turn.new.crew)
     c.args.self.now.streams.items c.take_turn.new.streams =
     subst (λ (l : List Waiting). HasBroken (g.C.Crew.seen c.args.self.now.crew)
     (g.C.Crew.seen c.take_turn.new.crew) l c.take_turn.new.streams) c.deref_mut.ensures.value
@@ -92,7 +92,7 @@ returns-in-Failed-clause-on g c from on =
     (broke_by from (coordinator_seen g.C.Crew.seen c.args.self.now) _ c.requires.settled.more
     c.requires.settled.told c.requires.read
     (broken_whole c.args.self.now.streams.len (g.C.Crew.seen c.args.self.now.crew) (g.C.Crew.seen c.take_turn.new.crew)
-    c.args.self.now.streams.items c.take_turn.new.streams (as_long c.deref_mut.ensures.value c.deref_mut.ensures.len) broken) refl refl refl on))
+    c.args.self.now.streams.items c.take_turn.new.streams (as_long c.deref_mut.ensures.value c.deref_mut.ensures.len) link_failed) refl refl refl on))
 
 pub returns-in-Wanting-clause-on : goal.returns-in-Wanting-clause-on
 returns-in-Wanting-clause-on g c from on =

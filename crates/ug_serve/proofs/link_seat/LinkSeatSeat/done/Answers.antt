@@ -6,11 +6,11 @@ use Rattle.ug_serve.specs.Seats.{basis_of}
 use Rattle.ug_serve.proofs.link_seat.LinkSeatSeat.done.Goals as goal
 
 pub returns-clause-done : goal.returns-clause-done
-returns-clause-done g c tally e seated done = record {
+returns-clause-done g c round_count e seated done = record {
   gap = seated.gap;
   agrees = tt;
-  stands = c.tell.ensures (Busy (basis_of c.args.self.now.kept) tally e)
-      (Free (basis_of c.args.self.now.kept) tally) (
+  stands = c.tell.ensures (Busy (basis_of c.args.self.now.kept) round_count e)
+      (Free (basis_of c.args.self.now.kept) round_count) (
         record {
           task = c.args.task;
           its = sym seated.agrees.ticket;

@@ -7,14 +7,14 @@ use Rattle.ug_serve.proofs.link_seat.LinkSeatSeat.solution.Goals as goal
 
 pub tell-requires : goal.tell-requires
 tell-requires g c =
-    let (tally, e, f, seated, found) = c.requires.at in
+    let (round_count, e, f, seated, found) = c.requires.at in
     solution_carried c.args.self.now.kept e f c.args.point seated.agrees found
 
 pub returns-clause-found : goal.returns-clause-found
-returns-clause-found g c tally e f seated found = record {
+returns-clause-found g c round_count e f seated found = record {
   gap = seated.gap;
   agrees = found_agrees c.args.self.now.kept e f c.args.point seated.agrees found;
-  stands = c.tell.ensures (Busy (basis_of c.args.self.now.kept) tally e)
-      (Busy (basis_of c.args.self.now.kept) tally f)
+  stands = c.tell.ensures (Busy (basis_of c.args.self.now.kept) round_count e)
+      (Busy (basis_of c.args.self.now.kept) round_count f)
       (f, sym seated.agrees.ticket, found, refl) seated.stands;
 }

@@ -4,25 +4,25 @@ use mir.Syntax.{w128}
 use Rattle.ug_serve.specs.Actions.{Busy}
 use Rattle.ug_serve.specs.Seats.{basis_of}
 use Rattle.ug_worker.specs.Engagements.{Engaged}
-use Rattle.ug_worker.specs.Renewals.{counted}
+use Rattle.ug_worker.specs.Releases.{counted}
 use Rattle.ug_serve.proofs.Seating.{stated_agrees, stated_told}
 use Rattle.ug_serve.proofs.link_seat.LinkSeatSeat.state.Goals as goal
 
 pub look-requires : goal.look-requires
 look-requires g c =
-    let (tally, e, f, seated, stated) = c.requires.at in
+    let (round_count, e, f, seated, stated) = c.requires.at in
     record {
       at = (
-        counted tally,
+        counted round_count,
         f,
         record {
           gap = seated.gap;
-          agrees = stated_agrees c.args.self.now.kept tally e f c.args.left c.args.floor seated.agrees stated;
-          stands = c.tell.ensures (Busy (basis_of c.args.self.now.kept) tally e)
-              (Busy (basis_of c.args.self.now.kept) (counted tally) f) (
+          agrees = stated_agrees c.args.self.now.kept round_count e f c.args.left c.args.floor seated.agrees stated;
+          stands = c.tell.ensures (Busy (basis_of c.args.self.now.kept) round_count e)
+              (Busy (basis_of c.args.self.now.kept) (counted round_count) f) (
                 f,
                 sym seated.agrees.ticket,
-                stated_told tally e f c.args.left c.args.floor _
+                stated_told round_count e f c.args.left c.args.floor _
                     (to_z-of_z w128 c.args.floor c.ranges.floor) stated,
                 refl,
               ) seated.stands;
@@ -32,15 +32,15 @@ look-requires g c =
     }
 
 pub returns-clause-replied : goal.returns-clause-replied
-returns-clause-replied g c tally e f seated stated =
-    c.look.ensures.replied (counted tally) f (record {
+returns-clause-replied g c round_count e f seated stated =
+    c.look.ensures.replied (counted round_count) f (record {
       gap = seated.gap;
-      agrees = stated_agrees c.args.self.now.kept tally e f c.args.left c.args.floor seated.agrees stated;
-      stands = c.tell.ensures (Busy (basis_of c.args.self.now.kept) tally e)
-          (Busy (basis_of c.args.self.now.kept) (counted tally) f) (
+      agrees = stated_agrees c.args.self.now.kept round_count e f c.args.left c.args.floor seated.agrees stated;
+      stands = c.tell.ensures (Busy (basis_of c.args.self.now.kept) round_count e)
+          (Busy (basis_of c.args.self.now.kept) (counted round_count) f) (
             f,
             sym seated.agrees.ticket,
-            stated_told tally e f c.args.left c.args.floor _
+            stated_told round_count e f c.args.left c.args.floor _
                 (to_z-of_z w128 c.args.floor c.ranges.floor) stated,
             refl,
           ) seated.stands;

@@ -15,25 +15,25 @@ on_err (Ok x) P holds = tt
 on_err (Err e) P holds = holds
 
 pub returns-clause-ok : goal.returns-clause-ok
-returns-clause-ok g c tally e f s handed =
+returns-clause-ok g c round_count e f s handed =
     on_ok _ _
     (stay_seated c.args.self.now.desk.now c.hand-heard.new.pass c.send_if_due.new.pass
-    (record c.args.self.now.asked { count = c.saturating_sub-self.result }) tally (Some f) c.send_if_due.ensures
+    (record c.args.self.now.asked { count = c.saturating_sub-self.result }) round_count (Some f) c.send_if_due.ensures
     (seat_handed c.args.self.now.desk.now c.args.number c.args.area.now c.hand-heard.result c.args.self.now.pass
-    c.hand-heard.new.pass c.args.self.now.asked.count c.saturating_sub-self.result c.args.self.now.asked.racing tally
+    c.hand-heard.new.pass c.args.self.now.asked.count c.saturating_sub-self.result c.args.self.now.asked.racing round_count
     e f c.hand-heard.ensures handed (search rules) s))
 
 pub returns-clause-err : goal.returns-clause-err
 returns-clause-err g c =
-    let (tally, e, f, s, handed) = c.requires.at in
+    let (round_count, e, f, s, handed) = c.requires.at in
     let asked : Asked = record c.args.self.now.asked { count = c.saturating_sub-self.result } in
     let stands : Stands (IsSeated c.args.self.now.desk.now c.send_if_due.new.pass asked) = (
-      tally,
+      round_count,
       Some f,
       stay_seated c.args.self.now.desk.now c.hand-heard.new.pass c.send_if_due.new.pass
-          (record c.args.self.now.asked { count = c.saturating_sub-self.result }) tally (Some f) c.send_if_due.ensures
+          (record c.args.self.now.asked { count = c.saturating_sub-self.result }) round_count (Some f) c.send_if_due.ensures
           (seat_handed c.args.self.now.desk.now c.args.number c.args.area.now c.hand-heard.result
           c.args.self.now.pass c.hand-heard.new.pass c.args.self.now.asked.count c.saturating_sub-self.result
-          c.args.self.now.asked.racing tally e f c.hand-heard.ensures handed (search rules) s),
+          c.args.self.now.asked.racing round_count e f c.hand-heard.ensures handed (search rules) s),
     ) in
     on_err _ _ stands

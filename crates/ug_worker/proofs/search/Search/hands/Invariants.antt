@@ -4,7 +4,7 @@ use Rattle.ug_worker.proofs.search.Search.hands.Given as goal
 
 abbrev pub invariant-loop : goal.invariant-loop
 invariant-loop g l = record {
-  stands : StandsAt (g.S.Seat.at l.seat l.self.tally) l.self.task 64 l.self.asked;
+  stands : StandsAt (g.S.Seat.at l.seat l.self.round_count) l.self.task 64 l.self.asked;
   rest : l.counter + l.self.asked.count ≡ l.end;
   within : l.counter ≤ l.end;
   some : 0 < length l.self.task.boxes;

@@ -9,11 +9,11 @@ pub solution-requires : goal.solution-requires
 solution-requires g c =
     let s = c.requires.stands in
     let found : IsFound c.args.self.now.task c.step.new.self c.in-Found.point = search rules in
-    let tally = c.args.self.now.tally in
-    let At = g.S.Seat.at c.args.seat.now tally in
+    let round_count = c.args.self.now.round_count in
+    let At = g.S.Seat.at c.args.seat.now round_count in
     record {
       at = (
-        tally,
+        round_count,
         s.now,
         found_now At s.now c.step.new.self c.args.made,
         s.at,
@@ -25,25 +25,25 @@ solution-requires g c =
 pub returns-in-Pruned-clause-stands : goal.returns-in-Pruned-clause-stands
 returns-in-Pruned-clause-stands g c =
     let pruned : IsPruned c.args.self.now.task c.step.new.self = search rules in
-    made_quiet (g.S.Seat.at c.args.seat.now c.args.self.now.tally) c.args.self.now.task c.step.new.self c.args.made
+    made_quiet (g.S.Seat.at c.args.seat.now c.args.self.now.round_count) c.args.self.now.task c.step.new.self c.args.made
     c.args.self.now.asked c.requires.room (inl pruned) c.requires.stands
 
 pub returns-in-Split-clause-stands : goal.returns-in-Split-clause-stands
 returns-in-Split-clause-stands g c =
     let split : IsSplit c.args.self.now.task c.step.new.self = search rules in
-    made_quiet (g.S.Seat.at c.args.seat.now c.args.self.now.tally) c.args.self.now.task c.step.new.self c.args.made
+    made_quiet (g.S.Seat.at c.args.seat.now c.args.self.now.round_count) c.args.self.now.task c.step.new.self c.args.made
     c.args.self.now.asked c.requires.room (inr split) c.requires.stands
 
 pub returns-then-solution-clause-stands : goal.returns-then-solution-clause-stands
 returns-then-solution-clause-stands g c =
     let s = c.requires.stands in
     let found : IsFound c.args.self.now.task c.step.new.self c.in-Found.point = search rules in
-    let tally = c.args.self.now.tally in
-    let At = g.S.Seat.at c.args.seat.now tally in
+    let round_count = c.args.self.now.round_count in
+    let At = g.S.Seat.at c.args.seat.now round_count in
     let now = found_now At s.now c.step.new.self c.args.made in
-    stands_found (g.S.Seat.at c.solution.new.self tally) c.step.new.self s.now c.args.made c.args.self.now.asked
+    stands_found (g.S.Seat.at c.solution.new.self round_count) c.step.new.self s.now c.args.made c.args.self.now.asked
     c.requires.room s.due s.racing
-    (c.if-solution.ensures.found tally s.now now s.at
+    (c.if-solution.ensures.found round_count s.now now s.at
     (found_by At c.args.self.now.task c.step.new.self c.args.made c.args.self.now.asked c.in-Found.point
     c.requires.room found c.is_one.ensures s))
 
@@ -51,8 +51,8 @@ pub returns-else-solution-clause-err : goal.returns-else-solution-clause-err
 returns-else-solution-clause-err g c =
     let s = c.requires.stands in
     let found : IsFound c.args.self.now.task c.step.new.self c.in-Found.point = search rules in
-    let tally = c.args.self.now.tally in
-    let At = g.S.Seat.at c.args.seat.now tally in
-    c.if-solution.ensures.found tally s.now (found_now At s.now c.step.new.self c.args.made) s.at
+    let round_count = c.args.self.now.round_count in
+    let At = g.S.Seat.at c.args.seat.now round_count in
+    c.if-solution.ensures.found round_count s.now (found_now At s.now c.step.new.self c.args.made) s.at
     (found_by At c.args.self.now.task c.step.new.self c.args.made c.args.self.now.asked c.in-Found.point
     c.requires.room found c.is_one.ensures s)

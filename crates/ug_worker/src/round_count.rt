@@ -2,31 +2,32 @@
 //! that is left of it.
 
 ghost use Rattle.std.specs.Prelude.{◌≡◌, ◌<◌, ◌≤◌, ◌*◌, MatchBool};
-ghost use Rattle.ug_worker.specs.Renewals.{IsDue, begun, counted, fresh, one_more, usual};
+ghost use Rattle.ug_worker.specs.Releases.{IsDue, begun, counted, fresh, one_more, usual};
 
 /// Least number of rounds of a task before it is released.
-const ROUNDS: u64 = 1024;
+const LEAST_ROUNDS: u64 = 1024;
 
-/// A task is released once it has had at least one in `PART` of all rounds of its worker.
-const PART: u64 = 128;
+/// A task is released once it has had at least one in `TASKS_PART_OF_ROUNDS` of all rounds of its
+/// worker.
+const TASKS_PART_OF_ROUNDS: u64 = 128;
 
 /// When a task is released: both conditions hold.
 #[derive(Clone, Copy, PartialEq, Eq)]
-pub struct Renewal {
+pub struct ReleasePolicy {
     /// It has had at least this number of rounds,
     pub rounds: u64,
     /// and one in `part` of all rounds of its worker.
     pub part: u64,
 }
 
-impl Renewal {
+impl ReleasePolicy {
     /// Returns the rule that the program uses.
-    pub fn usual() -> Renewal
+    pub fn usual() -> ReleasePolicy
         ensures { result ≡ usual }
     {
-        Renewal {
-            rounds: ROUNDS,
-            part: PART,
+        ReleasePolicy {
+            rounds: LEAST_ROUNDS,
+            part: TASKS_PART_OF_ROUNDS,
         }
     }
 
@@ -43,22 +44,22 @@ impl Renewal {
 
 /// The rounds that a worker has made and reported, and when it releases a task, if ever.
 #[derive(Clone, Copy, PartialEq, Eq)]
-pub struct Tally {
+pub struct RoundCount {
     /// When a task is released; never if `None`.
-    pub renewal: Option<Renewal>,
+    pub policy: Option<ReleasePolicy>,
     /// All rounds.
     pub all: u64,
     /// The rounds of the current task.
     pub task: u64,
 }
 
-impl Tally {
+impl RoundCount {
     /// Returns the count before the first round.
-    pub fn new(renewal: Option<Renewal>) -> Tally
-        ensures { result ≡ fresh renewal }
+    pub fn new(policy: Option<ReleasePolicy>) -> RoundCount
+        ensures { result ≡ fresh policy }
     {
-        Tally {
-            renewal,
+        RoundCount {
+            policy,
             all: 0,
             task: 0,
         }
@@ -83,9 +84,9 @@ impl Tally {
     pub fn is_due(&self, racing: bool) -> bool
         ensures { MatchBool result (IsDue self.now racing) (¬ IsDue self.now racing) }
     {
-        match self.renewal {
-            Some(renewal) => {
-                !racing && renewal.rounds <= self.task && renewal.has_part(self.task, self.all)
+        match self.policy {
+            Some(policy) => {
+                !racing && policy.rounds <= self.task && policy.has_part(self.task, self.all)
             }
             None => false,
         }
