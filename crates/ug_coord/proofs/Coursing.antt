@@ -756,7 +756,7 @@ pub in_phase : (P : Phase → Type 0) (phase : Phase) (b : CoordinatorState) (h 
     → IsOnIn P b h
 in_phase P phase b h is on = (phase, is, on)
 
--- a action done in any phase is done in this one
+-- an action done in any phase is done in this one
 pub stays_in : (P : Phase → Type 0) (b : CoordinatorState) (old new : CoordinatorSeen)
     → ((phase : Phase) → IsOnAs phase b old → IsOnAs phase b new) → IsOnIn P b old → IsOnIn P b new
 stays_in P b old new goes (phase, is, on) = (phase, is, goes phase on)

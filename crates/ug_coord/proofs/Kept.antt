@@ -18,7 +18,7 @@ use Rattle.ug_coord.proofs.Tries.{tried_none, tried_on}
 use Rattle.ug_coord.specs.Coordinators.{AnyPhase, EndsFrom, Reaches, HasKeptUp, CoordinatorSeen, IsKeptIn, IsOnIn, Phase, StaysSound, coordinator_state}
 use Rattle.ug_coord.specs.Keeping.{HasTried, IsOurs, KeptSeen, Moves, moves}
 
--- ---- courses
+-- ---- traces
 
 abbrev trace_joined : (a : CoordinatorState) (actions : List Action) (b : CoordinatorState) (more : List Action) (c : CoordinatorState)
     → IsTrace a actions b → IsTrace b more c → IsTrace a (actions ++ more) c

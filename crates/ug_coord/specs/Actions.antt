@@ -296,7 +296,7 @@ pub record IsKept (old new : CoordinatorState) : Type 0 where
   pub due : IsSaveDue old.pacing old.book
   pub rest : new ≡ record old { pacing = saved_at old.book }
 
--- what a action does
+-- what an action does
 abbrev pub NextState : CoordinatorState → Action → CoordinatorState → Type 0
 NextState old (Launched rank) new = (lives_at old rank ≡ false)
     × (new ≡ record old { lives = slice_set old.lives rank true })
@@ -321,7 +321,7 @@ NextState old Kept new = IsKept old new
 abbrev pub IsToldEnd : ℕ → List Action → Type 0
 IsToldEnd rank actions = Contains actions (Closed rank) ⊎ Contains actions (Unclosed rank)
 
--- how many saves a action is
+-- how many saves an action is
 abbrev pub saves_of : Action → ℕ
 saves_of Kept = 1
 saves_of action = 0

@@ -124,7 +124,7 @@ open_on (Busy basis round_count e) shows over = false≢true over
 open_on Ending shows over = shows
 open_on Over shows over = shows
 
--- ---- courses
+-- ---- traces
 
 over_stays : (a : ServerState) (actions : List Action) (b : ServerState) → IsTrace a actions b → is_over a.stage ≡ true
     → is_over b.stage ≡ true

@@ -69,7 +69,7 @@ front_orders os ns r carried also same =
     (in_one_way orders.IsCarried orders.spelled order_frame
     (only_one orders.IsCarried order_body order_in order_whole order_small)) order_frame os ns r carried also same
 
--- ---- what a course shows
+-- ---- what a trace shows
 
 pub shown_told : (a : ServerState) (actions : List Action) (b : ServerState) → IsTrace a actions b
     → told_in b.said ≡ told_in a.said ++ flat_map reports.spelled (reports_of actions)
@@ -125,7 +125,7 @@ shown_heard a (Told report ∷ actions) b (mid, does, more) =
           ∙ heard_still a.said (reports.spelled report)),
     )
 
--- ---- a prefix of a course
+-- ---- a prefix of a trace
 
 -- by these actions just these reports were sent, and no more was received than by all
 record IsCut (a : ServerState) (taken : List Report) (b : ServerState) : Type 0 where

@@ -33,7 +33,7 @@ pub record TellsReport (old new : ServerState) (report : Report) : Type 0 where
   pub said : new.said ≡ old.said ++ told (reports.spelled report)
   pub waiting : new.waiting ≡ old.waiting
 
--- what a action does
+-- what an action does
 abbrev pub NextState : ServerState → Action → ServerState → Type 0
 NextState old (Came bytes) new =
     new ≡ record old { said = old.said ++ heard bytes; waiting = fed old.waiting bytes }

@@ -34,7 +34,7 @@ all_new d o passes count wide new = record {
       (r, p, there, (new r p there).rank_is);
 }
 
--- the course of a pass is what its entries in the history are
+-- the trace of a pass is what its entries in the history are
 pass_worked : (o : Opening) (p : PassState) (history : List Entry) (r : ℕ) → p.rank ≡ r
     → IsInHistory history p → IsTrace o p.rank p.seen p.mine Away
     → IsTrace o r history (calls_of r history) Away

@@ -1,4 +1,4 @@
--- What the calls of a seat at a desk make of the course of its pass.
+-- What the calls of a seat at a desk make of the trace of its pass.
 use Rattle.std.proofs.Common.{◌≡◌, inl, inr, ℕ, ℤ, ◌-◌, ◌≤◌, List, [], ◌∷◌, ◌++◌, length, Bool, true, false, Option, Some, None, Result, Ok, Err, IfSome, refl, sym, ap, ◌∙◌, subst, arith}
 use Rattle.std.specs.declared.alloc.AllocError.{AllocError}
 use Rattle.std.specs.Prelude.{pos, ◌+ℤ◌, nat_eq, if◌then◌else◌, OnErr, IfOk, IsErr, MatchBool}
@@ -131,7 +131,7 @@ stood_then after p q o actions h opened calls = record {
   own = h.own ∙ sym (same_calls after p q actions h calls);
 }
 
--- a action in vain, of which what then stood is the evidence
+-- an action in vain, of which what then stood is the evidence
 come_in_vain : (action : Action) (after : LockedState) (p q : PassState) (old new : Stage)
     → HasCalledAt None after p q → NextState old action new
     → ((o : Opening) (past : List Action) → HasStood o q.rank past q.seen after → IsInLine o q.rank past action)

@@ -88,14 +88,14 @@ IsCalledBusy round_count e left new = new ≡ Away
 IsCalledBusy round_count e copied new = new ≡ Busy round_count e
 IsCalledBusy round_count e call new = ⊥
 
--- a action where nobody sits
+-- an action where nobody sits
 abbrev pub IsDoneAway : Action → Stage → Type 0
 IsDoneAway (Sat policy) new = new ≡ Free (fresh policy)
 IsDoneAway (Called call) new = IsCalledAway call new
 IsDoneAway (LeftInVain history) new = new ≡ Away
 IsDoneAway action new = ⊥
 
--- a action of a worker that has no task
+-- an action of a worker that has no task
 abbrev pub IsDoneFree : RoundCount → Action → Stage → Type 0
 IsDoneFree round_count (Called call) new = IsCalledFree round_count call new
 IsDoneFree round_count (LeftInVain history) new = new ≡ Away
@@ -109,7 +109,7 @@ IsDoneBusy round_count e (EndedInVain task history) new = IsDoneBy e task × (ne
 IsDoneBusy round_count e (LeftInVain history) new = new ≡ Away
 IsDoneBusy round_count e action new = ⊥
 
--- what a action makes of where the pass stood
+-- what an action makes of where the pass stood
 abbrev pub NextState : Stage → Action → Stage → Type 0
 NextState Away action new = IsDoneAway action new
 NextState (Free round_count) action new = IsDoneFree round_count action new

@@ -1,4 +1,4 @@
--- The course of a pass: its own calls are those of workers that sat at it, one after another.
+-- The trace of a pass: its own calls are those of workers that sat at it, one after another.
 use Rattle.std.specs.Prelude.{◌≡◌, ℕ, ℤ, ◌<◌, ◌≤◌, List, [], Option, Some, None, IfSome}
 use Rattle.ug_book.specs.declared.opening.Opening.{Opening}
 use Rattle.ug_worker.specs.declared.search.Asked.{Asked}

@@ -10,7 +10,7 @@ use Rattle.ug_top.specs.Headline.{HasAnswered}
 use Rattle.ug_top.specs.Ran.{HasRun}
 use Rattle.ug_top.specs.declared.status.Status.TheVariants.{Answered}
 
--- in each course that the crew shows, what was received from it is honest
+-- in each trace that the crew shows, what was received from it is honest
 abbrev pub AreChildrenHonest : Outside → Outside → Type 0
 AreChildrenHonest old new = (given : BookState) (end : End)
     → (solved : has_solved old.crew new.crew given end)
