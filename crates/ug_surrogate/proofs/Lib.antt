@@ -11,3 +11,4 @@ pub mod Combined
 pub mod Listed
 pub mod Follows
 pub mod Same
+pub mod Complete

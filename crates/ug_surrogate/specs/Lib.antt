@@ -5,3 +5,4 @@ pub mod Rounding
 pub mod Implied
 pub mod Subgradients
 pub mod Stronger
+pub mod Complete

@@ -1,9 +1,12 @@
 //! A problem with more rows, which follow from its own, from a box and from a cutoff.
 
-ghost use Rattle.std.specs.Prelude.{◌≡◌, ◌≤◌, ◌^◌, ◌*◌, All, None, Some, length, unsigned_abs, IfOk, IfSome, OnOk};
+ghost use Rattle.std.specs.Bool.{OnFalse};
+ghost use Rattle.std.specs.Prelude.{◌≡◌, ◌≤◌, ◌^◌, ◌*◌, ◌+ℤ◌, ◌⊎◌, ◌↔◌, All, None, Some, length, unsigned_abs, IfNone, IfOk, IfSome, IsSome, IsTrue, OnOk};
+ghost use Rattle.ug_rows.specs.Sums.{greatest_sum};
 ghost use Rattle.ug_problem.specs.Better.{IsSmallCutoff};
 ghost use Rattle.ug_problem.specs.Instances.{IsName, IsRow};
 ghost use Rattle.ug_problem.specs.Limits.{IsProblem};
+ghost use Rattle.ug_surrogate.specs.Complete.{HasNoCutoff, HasNoRow, IsComplete, IsRoom, IsRowOf, IsWithRowOf, IsWithRowsOf, cutoff_for};
 ghost use Rattle.ug_surrogate.specs.Stronger.{Follows, IsAtMost, IsCutoffOver, IsFurtherSum, IsPushed, StandFor};
 
 use crate::implying::{ImpliedError, implied};
@@ -45,6 +48,8 @@ fn named(alloc: Global, row: Row) -> Result<NamedRow, AllocError>
 #[tactic(auto, using(crate::proofs::Follows::at_most))]
 fn greatest_value(problem: &Problem, area: &IntBox) -> i128
     requires { length area.now ≡ length problem.now.columns }
+    ensures value { result ≡ greatest_sum problem.now.objective.terms area.now
+        +ℤ problem.now.objective.constant }
     ensures most { IsAtMost problem.now area.now result }
     ensures small { unsigned_abs result ≤ 4 * 10 ^ 37 }
 {
@@ -63,6 +68,8 @@ fn over_all(problem: &Problem, area: &IntBox) -> Option<i128>
     requires { length area.now ≡ length problem.now.columns }
     ensures over { IfSome result (IsCutoffOver problem.now area.now None) }
     ensures small { IfSome result (λ over. unsigned_abs over ≤ 2 * 10 ^ 37) }
+    ensures value { IfSome result (λ over. over ≡ cutoff_for problem.now area.now None) }
+    ensures none { IfNone result (HasNoCutoff problem.now area.now None) }
 {
     let over = greatest_value(problem, area) + 1;
     if over.unsigned_abs() <= MOST_CUTOFF {
@@ -80,6 +87,8 @@ fn cutoff_over(problem: &Problem, area: &IntBox, cutoff: Option<i128>) -> Option
     requires small { IsSmallCutoff cutoff }
     ensures over { IfSome result (IsCutoffOver problem.now area.now cutoff) }
     ensures small { IfSome result (λ over. unsigned_abs over ≤ 2 * 10 ^ 37) }
+    ensures value { IfSome result (λ over. over ≡ cutoff_for problem.now area.now cutoff) }
+    ensures none { IfNone result (HasNoCutoff problem.now area.now cutoff) }
 {
     match cutoff {
         Some(cutoff) => Some(cutoff),
@@ -97,7 +106,10 @@ fn push(alloc: Global, rows: &mut Vec<NamedRow>, row: Row) -> Result<(), AllocEr
 }
 
 // Whether one more row is within the limits of a problem.
-fn is_room(problem: &Problem, rows: &[NamedRow], row: &Row) -> bool {
+#[tactic(auto, using(crate::proofs::Complete::counted_more))]
+fn is_room(problem: &Problem, rows: &[NamedRow], row: &Row) -> bool
+    ensures { IsTrue result ↔ IsRoom problem.now rows.now row.now }
+{
     let mut terms = problem.objective().terms.len();
     terms = terms.saturating_add(row.terms.len());
     for named in rows {
@@ -117,15 +129,20 @@ fn implied_row(
     m: &Multipliers,
 ) -> Result<Option<Row>, AllocError>
     requires cutoff { unsigned_abs cutoff ≤ 2 * 10 ^ 37 }
-    ensures { IfOk result (λ row. IfSome row (IsFurtherSum problem.now area.now (Some cutoff))) }
+    ensures further { IfOk result (λ row. IfSome row
+        (IsFurtherSum problem.now area.now (Some cutoff))) }
+    ensures some { IfOk result (λ row. IfSome row (IsRowOf problem.now m.now cutoff)) }
+    ensures none { IfOk result (λ row. IfNone row (HasNoRow problem.now m.now cutoff)) }
 {
     if !are_of(problem, m) {
         return Ok(None);
     }
     match implied(alloc, problem, m, cutoff) {
         Ok(row) => Ok(Some(row)),
-        Err(ImpliedError::Memory) => Err(AllocError),
-        Err(_) => Ok(None),
+        Err(error) => match error {
+            ImpliedError::Memory => Err(AllocError),
+            _ => Ok(None),
+        },
     }
 }
 
@@ -142,7 +159,9 @@ fn push_implied(
 ) -> Result<(), AllocError>
     requires cutoff { unsigned_abs cutoff ≤ 2 * 10 ^ 37 }
     requires stand { StandFor problem.now area.now (Some cutoff) rows.old.items }
-    ensures { OnOk result (StandFor problem.now area.now (Some cutoff) rows.new.items) }
+    ensures stand { OnOk result (StandFor problem.now area.now (Some cutoff) rows.new.items) }
+    ensures added { OnOk result
+        (IsWithRowOf problem.now m.now cutoff rows.old.items rows.new.items) }
 {
     let Some(row) = implied_row(alloc, problem, area, cutoff, m)? else {
         return Ok(());
@@ -166,7 +185,9 @@ fn push_all_implied(
 ) -> Result<(), AllocError>
     requires cutoff { unsigned_abs cutoff ≤ 2 * 10 ^ 37 }
     requires stand { StandFor problem.now area.now (Some cutoff) rows.old.items }
-    ensures { OnOk result (StandFor problem.now area.now (Some cutoff) rows.new.items) }
+    ensures stand { OnOk result (StandFor problem.now area.now (Some cutoff) rows.new.items) }
+    ensures added { OnOk result
+        (IsWithRowsOf problem.now lists.now cutoff rows.old.items rows.new.items) }
 {
     for m in lists {
         push_implied(alloc, rows, problem, area, cutoff, m)?;
@@ -186,8 +207,12 @@ fn strengthen(
 ) -> Result<bool, AllocError>
     requires width { length area.now ≡ length problem.now.columns }
     requires cutoff { unsigned_abs cutoff ≤ 2 * 10 ^ 37 }
-    requires stand { StandFor problem.now area.now None rows.old.items }
-    ensures { IfOk result (λ _. StandFor problem.now area.now (Some cutoff) rows.new.items) }
+    requires own { rows.old.items ≡ problem.now.rows }
+    ensures stand { IfOk result (λ _. StandFor problem.now area.now (Some cutoff) rows.new.items) }
+    ensures complete { IfOk result (λ _. IsComplete problem.now area.now (Some cutoff) lists.now
+        rows.new.items) }
+    ensures same { IfOk result (λ is_changed. OnFalse is_changed
+        (rows.new.items ≡ rows.old.items)) }
 {
     let own = rows.len();
     let is_tighter = tighten_all(alloc, rows, problem, area)?;
@@ -213,6 +238,7 @@ fn copied_rows(alloc: Global, rows: &[NamedRow]) -> Result<Vec<NamedRow>, AllocE
 #[tactic(auto, using(crate::proofs::Follows::own_stand))]
 fn own_rows(alloc: Global, problem: &Problem, area: &IntBox) -> Result<Vec<NamedRow>, AllocError>
     ensures stand { IfOk result (λ rows. StandFor problem.now area.now None rows.items) }
+    ensures own { IfOk result (λ rows. rows.items ≡ problem.now.rows) }
     ensures problem { IsProblem problem.now }
 {
     copied_rows(alloc, problem.rows())
@@ -230,6 +256,10 @@ fn all_rows(
     requires cutoff { unsigned_abs cutoff ≤ 2 * 10 ^ 37 }
     ensures rows { IfOk result (λ made. IfSome made (λ rows.
         StandFor problem.now area.now (Some cutoff) rows.items)) }
+    ensures complete { IfOk result (λ made. IfSome made (λ rows.
+        IsComplete problem.now area.now (Some cutoff) lists.now rows.items)) }
+    ensures unchanged { IfOk result (λ made. IfNone made
+        (IsComplete problem.now area.now (Some cutoff) lists.now problem.now.rows)) }
     ensures problem { IsProblem problem.now }
 {
     let mut rows = own_rows(alloc, problem, area)?;
@@ -246,15 +276,19 @@ fn all_rows(
     }
 }
 
-// The problem with these rows in the place of its own, if they are within the limits.
+// The problem with these rows in the place of its own. They are within the limits, so it fails only
+// if out of memory.
 #[tactic(auto, using(crate::proofs::Follows::formed_with))]
 fn with_rows(
     alloc: Global,
     problem: &Problem,
     rows: Vec<NamedRow>,
 ) -> Result<Option<Problem>, AllocError>
-    requires { All (IsRow (length problem.now.columns)) rows.items }
-    ensures { IfOk result (λ made. IfSome made (λ s. s ≡ record problem.now { rows = rows.items })) }
+    requires formed { All (IsRow (length problem.now.columns)) rows.items }
+    requires within { IsProblem (record problem.now { rows = rows.items }) }
+    ensures made { IfOk result (λ made. IfSome made (λ s. s
+        ≡ record problem.now { rows = rows.items })) }
+    ensures some { IfOk result (λ made. IsSome made) }
 {
     let columns = match copied_columns(alloc, problem.columns()) {
         Ok(columns) => columns,
@@ -281,7 +315,8 @@ fn with_rows(
 /// The problem with stronger rows, if there are any: the sides of its own rows rounded over the
 /// box, each in its place, and behind them the rows that these lists of multipliers imply under the
 /// cutoff, as far as the limits of a problem allow. Without a cutoff one more than the greatest
-/// value in the box is used.
+/// value in the box is used. Returns `None` only if the rows would stay as they are, or if that
+/// value is too large for a cutoff.
 pub fn stronger(
     alloc: Global,
     problem: &Problem,
@@ -291,7 +326,12 @@ pub fn stronger(
 ) -> Result<Option<Problem>, AllocError>
     requires width { length area.now ≡ length problem.now.columns }
     requires cutoff { IsSmallCutoff cutoff }
-    ensures { IfOk result (λ made. IfSome made (Follows problem.now area.now cutoff)) }
+    ensures follows { IfOk result (λ made. IfSome made (Follows problem.now area.now cutoff)) }
+    ensures complete { IfOk result (λ made. IfSome made (λ s.
+        IsComplete problem.now area.now cutoff lists.now s.rows)) }
+    ensures unchanged { IfOk result (λ made. IfNone made
+        (HasNoCutoff problem.now area.now cutoff
+        ⊎ IsComplete problem.now area.now cutoff lists.now problem.now.rows)) }
 {
     let Some(over) = cutoff_over(problem, area, cutoff) else {
         return Ok(None);

@@ -1,9 +1,11 @@
 //! The rows of a problem with their sides rounded over a box, each in its own place.
 
-ghost use Rattle.std.specs.Prelude.{◌≡◌, ◌<◌, ◌≤◌, [], negsuc, None, Some, length, IfOk, IfSome};
+ghost use Rattle.std.specs.Bool.{OnFalse, OnTrue};
+ghost use Rattle.std.specs.Prelude.{◌≡◌, ◌<◌, ◌≤◌, ℕ, [], negsuc, None, Some, if◌then◌else◌, length, IfNone, IfOk, IfSome};
 ghost use Rattle.ug_problem.specs.Instances.{row_at};
 ghost use Rattle.ug_problem.specs.Limits.{IsProblem};
-ghost use Rattle.ug_surrogate.specs.Rounding.{IsNarrower, LosesNone};
+ghost use Rattle.ug_surrogate.specs.Complete.{AreTightened, IsLeftAt, IsTightened, IsTightenedAt, is_within_limit, row_left, with_sides};
+ghost use Rattle.ug_surrogate.specs.Rounding.{IsCommonDivisor, IsNarrower, LosesNone, rounded_by};
 ghost use Rattle.ug_surrogate.specs.Stronger.{IsInPlaceOf, IsPutAt, StandFor};
 
 use crate::rounding::{Narrowed, Sides, rounded};
@@ -18,6 +20,8 @@ use ug_rows::{IntBox, Row};
 fn rounded_at(problem: &Problem, area: &IntBox, r: usize) -> Narrowed
     requires there { r < length problem.now.rows }
     requires width { length area.now ≡ length problem.now.columns }
+    ensures value { (g : ℕ) × IsCommonDivisor (row_at problem.now r).terms area.now g
+        × (result ≡ rounded_by g (row_at problem.now r) area.now) }
     ensures kept { LosesNone (row_at problem.now r) area.now result }
     ensures narrower { IsNarrower (row_at problem.now r) result }
     ensures problem { IsProblem problem.now }
@@ -27,7 +31,9 @@ fn rounded_at(problem: &Problem, area: &IntBox, r: usize) -> Narrowed
 }
 
 // Whether a side is within the limits of a problem, if it is there.
-fn is_small(side: Option<i128>) -> bool {
+fn is_small(side: Option<i128>) -> bool
+    ensures { result ≡ is_within_limit side }
+{
     match side {
         Some(side) => side.unsigned_abs() <= MOST_SIDE,
         None => true,
@@ -35,8 +41,11 @@ fn is_small(side: Option<i128>) -> bool {
 }
 
 // Whether these sides are other than those of row r, and within the limits of a problem.
+#[tactic(auto, using(crate::proofs::Complete::left_with_own))]
 fn are_new_sides(problem: &Problem, r: usize, sides: Sides) -> bool
     requires { r < length problem.now.rows }
+    ensures { row_left (row_at problem.now r) (Narrowed.To sides)
+        ≡ (if result then with_sides (row_at problem.now r) sides else row_at problem.now r) }
 {
     let row = &problem.rows()[r].row;
     let is_same = sides.low == row.low && sides.high == row.high;
@@ -81,7 +90,11 @@ fn rounded_row(
 ) -> Result<Option<Row>, AllocError>
     requires there { r < length problem.now.rows }
     requires width { length area.now ≡ length problem.now.columns }
-    ensures { IfOk result (λ row. IfSome row (IsInPlaceOf problem.now area.now r)) }
+    ensures in_place { IfOk result (λ row. IfSome row (IsInPlaceOf problem.now area.now r)) }
+    ensures some { IfOk result (λ row. IfSome row
+        (IsTightened area.now (row_at problem.now r))) }
+    ensures none { IfOk result (λ row. IfNone row
+        (IsTightened area.now (row_at problem.now r) (row_at problem.now r))) }
 {
     match rounded_at(problem, area, r) {
         Narrowed::To(sides) => {
@@ -115,7 +128,11 @@ fn tighten(
     requires there { r < length problem.now.rows }
     requires width { length area.now ≡ length problem.now.columns }
     requires stand { StandFor problem.now area.now None rows.old.items }
-    ensures { IfOk result (λ _. StandFor problem.now area.now None rows.new.items) }
+    ensures stand { IfOk result (λ _. StandFor problem.now area.now None rows.new.items) }
+    ensures changed { IfOk result (λ is_changed. OnTrue is_changed
+        (IsTightenedAt problem.now area.now r rows.old.items rows.new.items)) }
+    ensures same { IfOk result (λ is_changed. OnFalse is_changed
+        (IsLeftAt problem.now area.now r rows.old.items rows.new.items)) }
 {
     match rounded_row(alloc, problem, area, r)? {
         Some(row) => {
@@ -134,8 +151,11 @@ pub fn tighten_all(
     area: &IntBox,
 ) -> Result<bool, AllocError>
     requires width { length area.now ≡ length problem.now.columns }
-    requires stand { StandFor problem.now area.now None rows.old.items }
-    ensures { IfOk result (λ _. StandFor problem.now area.now None rows.new.items) }
+    requires own { rows.old.items ≡ problem.now.rows }
+    ensures stand { IfOk result (λ _. StandFor problem.now area.now None rows.new.items) }
+    ensures tightened { IfOk result (λ _. AreTightened problem.now area.now rows.new.items) }
+    ensures same { IfOk result (λ is_changed. OnFalse is_changed
+        (rows.new.items ≡ rows.old.items)) }
 {
     let mut is_changed = false;
     for r in 0..problem.rows().len() {

@@ -9,3 +9,8 @@ returns-clause-stand c =
     (λ rows same. own_stand c.args.problem.now c.args.area.now rows.items c.rows.ensures.problem
     (same ∙ c.rows.ensures.value))
     c.copied_rows.ensures
+
+pub returns-clause-own : goal.returns-clause-own
+returns-clause-own c =
+    IfOk-weaker c.copied_rows.result _ _ (λ rows same. same ∙ c.rows.ensures.value)
+    c.copied_rows.ensures
