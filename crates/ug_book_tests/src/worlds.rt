@@ -15,7 +15,7 @@ use ug_nodes::Ticket;
 use ug_problem::Shared;
 use ug_rows::Point;
 use ug_rules::{Heard, Settings};
-use ug_world::{Event, PlayFault, Played, play};
+use ug_world::{Decision, Event, PlayFault, Played, play};
 
 // A book of the square with one rank.
 fn begin(alloc: Global) -> Option<Book> {
@@ -127,11 +127,24 @@ fn holds_one(book: &Book) -> bool {
 /// The replies of a schedule, or the place of a report that it receives and that was not sent.
 type Told = Result<&'static [Heard], usize>;
 
+/// Whether each decision that a schedule says was made, and no other.
+pub fn are_made(decisions: &[Decision], text: &str) -> bool {
+    let mut said = 0_usize;
+    for letter in text.as_bytes() {
+        if *letter == b'd' {
+            said = said.saturating_add(1);
+        }
+    }
+    decisions.len() == said && decisions.iter().all(|made| *made == Decision::Whole)
+}
+
 // Whether that is reported, and the book left that holds one node and no point.
-fn is_told(end: &Result<Played, PlayFault>, wanted: Told) -> bool {
+fn is_told(end: &Result<Played, PlayFault>, text: &str, wanted: Told) -> bool {
     match (end, wanted) {
         (Ok(played), Ok(replies)) => {
-            played.replies.as_slice() == replies && holds_one(&played.book)
+            played.replies.as_slice() == replies
+                && holds_one(&played.book)
+                && are_made(played.decisions.as_slice(), text)
         }
         (Err(PlayFault::NoSuch { place, book }), Err(wanted)) => {
             *place == wanted && holds_one(book)
@@ -153,7 +166,7 @@ fn tells(alloc: Global, text: &str, wanted: Told) -> bool {
     };
     let events = events_of(alloc, text, ranks(&book));
     let end = play(alloc, book, &events);
-    let is_so = events.len() == text.len() && is_told(&end, wanted);
+    let is_so = events.len() == text.len() && is_told(&end, text, wanted);
     drop(end);
     drop(events);
     is_so

@@ -199,7 +199,7 @@ goes_on old Unread new does c readable fine =
 goes_on old Saved new does c readable fine =
     (tt, still_fine old new (ap (λ (s : CoordinatorState). s.link_failed) does.rest) (ap (λ (s : CoordinatorState). s.streams) does.rest) fine)
 
--- ---- a course
+-- ---- a trace
 
 none_quiet : AreQuiet []
 none_quiet action there = absurd (nothing_in action there)

@@ -20,16 +20,24 @@ use Rattle.ug_coord.specs.Actions.{Sent, SetUp, CoordinatorState, Took, Unclosed
 use Rattle.ug_coord.specs.Actions.{Kept as Saved}
 use Rattle.ug_coord.specs.Coordinators.{beginning}
 use Rattle.ug_world.specs.declared.event.Event.TheVariants.{Send, Hear, Gone, Decide, Tell}
-use Rattle.ug_world.specs.Worlds.{World, opening, told_first}
+use Rattle.ug_world.specs.declared.decision.Decision.{Decision}
+use Rattle.ug_world.specs.declared.decision.Decision.TheVariants.{Whole, CutShort}
+use Rattle.ug_world.specs.Worlds.{IsMadeAsFar, World, opening, told_first}
 use Rattle.ug_world.specs.Honest.{IsGivenWith}
 use Rattle.ug_world.specs.Laws.{LosesNothing}
-use Rattle.ug_world.specs.Coordinators.{CoordinatorsLoseNothing, IsHonestSo, Past, StaysHonest, after, honest_at, nothing, with_order, with_report}
+use Rattle.ug_world.specs.Coordinators.{CoordinatorsLoseNothing, IsHonestSo, Past, StaysHonest, after, honest_at, nothing, with_decision, with_order, with_report}
 use Rattle.ug_world.proofs.Traces.{Holds, event_holds, loses_nothing, unused_holds}
 use Rattle.ug_world.proofs.Trusted.{AreTrue, honest_true, unused_true}
 
 -- the world that this is
 abbrev world_of : BookState → Past → World
-world_of b past = record { book = b; told = past.told; sent = past.heard; replies = past.replies }
+world_of b past = record {
+  book = b;
+  told = past.told;
+  sent = past.heard;
+  replies = past.replies;
+  decisions = past.decisions;
+}
 
 -- facts about each state
 pub record Keeps (n : ℕ) (b : BookState) (past : Past) : Type 0 where
@@ -131,6 +139,13 @@ same_holds : (n : ℕ) (old new : BookState) (past : Past) → new ≡ old → K
     → Holds n (world_of new past)
 same_holds n old new past same k = (same_book n old new past same k).holds
 
+decided : (n : ℕ) (old new : BookState) (past : Past) (decision : Decision)
+    → IsMadeAsFar decision old new → Keeps n old past
+    → Holds n (world_of new (with_decision past decision))
+decided n old new past decision made k =
+    event_holds n (world_of old past) (world_of new (with_decision past decision)) Decide tt
+    (record { decision = decision; made = made; rest = refl }) k.true_ k.holds
+
 action_holds : (n : ℕ) (old mid : CoordinatorState) (past : Past) (action : Action) → NextState old action mid
     → honest_at old past action → IsHonestSo old.book past.told past.heard → Keeps n old.book past
     → Holds n (world_of mid.book (after action past))
@@ -147,8 +162,7 @@ action_holds n old mid past (Took rank report answer) does now honest k =
 action_holds n old mid past (Lost rank cause) does now honest k =
     gone n old.book mid.book past rank does.there does.book k.true_ k.holds
 action_holds n old mid past Decided does now honest k =
-    event_holds n (world_of old.book past) (world_of mid.book past) Decide tt
-    (record { decided = inl does.is; rest = refl }) k.true_ k.holds
+    decided n old.book mid.book past Whole does.is k
 action_holds n old mid past (Sent rank order) does now honest k =
     left n old.book mid.book past (record { rank = rank; order = order }) does.told k
 action_holds n old mid past (Unsent rank order) does now honest k =
@@ -160,8 +174,7 @@ action_holds n old mid past Broke does now honest k =
 action_holds n old mid past (Unclosed rank) does now honest k =
     same_holds n old.book mid.book past (ap (λ (s : CoordinatorState). s.book) does.rest) k
 action_holds n old mid past (Halted steps) does now honest k =
-    event_holds n (world_of old.book past) (world_of mid.book past) Decide tt
-    (record { decided = inr (record { steps = steps; stands = does.is }); rest = refl }) k.true_ k.holds
+    decided n old.book mid.book past (CutShort steps) does.is k
 action_holds n old mid past (Unwritten rank order) does now honest k =
     left n old.book mid.book past (record { rank = rank; order = order }) does.told k
 action_holds n old mid past (Unfed rank bytes) does now honest k =
@@ -205,7 +218,7 @@ book_loses_nothing b faults actions now book sound unused trace stays =
       true_ = unused_true b [] book unused;
     })
 
--- without a action
+-- without an action
 none_loses : (b : BookState) (faults : ℕ) (actions : List Action) (now : CoordinatorState) → actions ≡ [] → IsSoundBook b
     → (trace : IsTrace (beginning b faults) actions now)
     → AreSound (beginning b faults) actions now trace × LosesNothing now.book

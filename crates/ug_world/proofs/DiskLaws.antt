@@ -227,7 +227,7 @@ trace_loses since old (event ∷ events) (new ∷ trace) t honest h =
 trace_loses since old [] (new ∷ trace) t honest h = absurd t
 trace_loses since old (event ∷ events) [] t honest h = absurd t
 
--- at the end of a course
+-- at the end of a trace
 pub trace_holds : (since : History) (old : DiskWorld) (events : List DiskEvent)
     (trace : List DiskWorld) → IsDiskTrace old events trace → All IsHonestOnDisk trace
     → Holds since old → Holds (last_left since events) (disk_end_of old trace)

@@ -1,4 +1,4 @@
--- A schedule that is played is a course of events.
+-- A schedule that is played is a trace of events.
 use Rattle.std.proofs.Common.{◌≡◌, ℕ, ◌+◌, List, [], ◌∷◌, ◌++◌, length, take, Option, None, Some, refl, sym, ap, subst}
 use Rattle.std.specs.Prelude.{All, slice_get}
 use Rattle.ug_rules.specs.Books.{IsSoundBook}

@@ -1,4 +1,4 @@
--- That in a calm course of workers no answer is a death, so that no rank is taken for gone.
+-- That in a calm trace of workers no answer is a death, so that no rank is taken for gone.
 use Rattle.std.proofs.Common.{◌≡◌, ◌≢◌, inl, inr, eqb, ℕ, Bool, false, List, [], ◌∷◌, ◌++◌, append_assoc, append-nil, length, Option, None, refl, sym, ap, subst, ◌∙◌, arith}
 use Rattle.std.specs.Prelude.{Contains}
 use Rattle.std.specs.Option.{option_to_list}
@@ -101,7 +101,7 @@ away_more done old action new does quiet harmless away rank none =
     (sym (reports_push rank done action) ∙ none) in
     action_away old action new does quiet harmless rank parts.1 (away rank parts.0)
 
--- ---- a course
+-- ---- a trace
 
 abbrev pub AreHarmless : List Action → Type 0
 AreHarmless actions = (rank : ℕ) (report : Report) (answer : Heard) → Contains actions (Took rank report answer)
@@ -196,7 +196,7 @@ took_tracked done old r report answer new does fair named harmless some t =
     (heard_so old.book (left_of done) r (λ (q : ℕ). reports_from q done) heard_then report answer h does.there
     does.due fair named harmless some t))
 
--- what a action needs to be fair
+-- what an action needs to be fair
 abbrev IsFairAction : CoordinatorState → Action → Type 0
 IsFairAction old (Took r report answer) =
     IsFair old.book (state_at old.book.ranks r) report × IsReportNamed old.book.last report
@@ -236,7 +236,7 @@ tracked_more done old Unread new does quiet harmless fair t = absurd quiet
 tracked_more done old Saved new does quiet harmless fair t =
     silent done old Saved new t old.book refl refl (ap (λ (s : CoordinatorState). s.book) does.rest) t
 
--- ---- a course from the beginning
+-- ---- a trace from the beginning
 
 module _ (b : BookState) (faults : ℕ) (unused : IsUnused b) where
   fair_action : (done : List Action) (old : CoordinatorState) (action : Action) (mid : CoordinatorState)

@@ -1,4 +1,4 @@
--- A schedule that is played is a course of the rules.
+-- A schedule that is played is a trace of the rules.
 use Rattle.std.proofs.Common.{◌≡◌, ℕ, zero, suc, ◌+◌, ◌<◌, ◌≤◌, List, [], ◌∷◌, ◌++◌, length, take, refl, ap, sym, ◌∙◌, subst, arith}
 use Rattle.std.specs.Prelude.{Some, slice_get}
 use Rattle.std.proofs.lemmas.List.{append-nil, append_assoc, length-append}
@@ -87,7 +87,7 @@ record IsMissingFrom (earlier : ℕ) (events : List Event) (k place : ℕ) : Typ
   hears : slice_get events k ≡ Some (Hear place rank)
   few : earlier + length (sent_by (take k events)) ≤ place
 
--- no event before the last of a course receives where nothing was sent
+-- no event before the last of a trace receives where nothing was sent
 none_from : (old : World) (events : List Event) (done : ℕ) (trace : List World)
     → IsTrace old (take done events) trace → (k place : ℕ) → k < done
     → IsMissingFrom (length old.sent) events k place → ⊥
@@ -164,13 +164,14 @@ module _ (b : BookState) (events : List Event) (done : ℕ) (world : World)
   whole = subst (λ n. IsUnderWay b (take n events) world) all t
 
   pub played_so : (played : Played) → played.book ≡ world.book → played.replies ≡ world.replies
-      → IsPlayed b events played
-  played_so played book replies = record {
+      → played.decisions ≡ world.decisions → IsPlayed b events played
+  played_so played book replies decisions = record {
     trace = whole.trace;
     after = after_so b events (length events) world whole played.book
         (subst (λ o. IsLeftBy o world.book played.book)
         (sym (slice_get_past events (length events) (omega arith))) book);
     replies = replies ∙ sym (ap (λ (w : World). w.replies) whole.ends);
+    decisions = decisions ∙ sym (ap (λ (w : World). w.decisions) whole.ends);
   }
 
   pub all_there : AreAllThere events

@@ -64,7 +64,7 @@ all_closing old [] new same closes = ap (λ (s : CoordinatorState). s.pace) same
 all_closing old (action ∷ actions) new (mid, does, more) closes =
     all_closing mid actions new more (stays_closing old action mid does closes)
 
--- ---- a action that reports the end
+-- ---- an action that reports the end
 
 -- no end left the queue
 abbrev NoneEnds : List Told → Type 0

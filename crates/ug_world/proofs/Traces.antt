@@ -1,5 +1,5 @@
--- Along a course no better point is lost.
-use Rattle.std.proofs.Common.{◌≡◌, ℕ, ◌<◌, inl, inr, List, [], ◌∷◌, ◌++◌, append_assoc, length, refl, ap, sym, ◌∙◌, subst, arith}
+-- Along a trace no better point is lost.
+use Rattle.std.proofs.Common.{◌≡◌, ℕ, ◌<◌, List, [], ◌∷◌, ◌++◌, append_assoc, length, refl, ap, sym, ◌∙◌, subst, arith}
 use Rattle.std.specs.Prelude.{All, Contains, Option, Some, None, slice_get, take}
 use Rattle.std.proofs.lemmas.List.Elements.{All-cons, All-head, All-nil, All-tail, All-take, All-weaker}
 use Rattle.std.proofs.lemmas.Option.{get_or_from_slice_get, slice_get_within}
@@ -23,7 +23,9 @@ use Rattle.ug_rules.proofs.HeldLemmas.{is_current}
 use Rattle.ug_world.specs.declared.event.Event.{Event}
 use Rattle.ug_world.specs.declared.event.Event.TheVariants.{Send, Hear, Join, Gone, Decide, Tell}
 use Rattle.ug_world.specs.Events.{IsEvent}
-use Rattle.ug_world.specs.Worlds.{Happens, IsTrace, IsHeard, World, end_of, opening, told_first}
+use Rattle.ug_world.specs.declared.decision.Decision.{Decision}
+use Rattle.ug_world.specs.declared.decision.Decision.TheVariants.{Whole, CutShort}
+use Rattle.ug_world.specs.Worlds.{Happens, IsMadeAsFar, IsTrace, IsHeard, World, end_of, opening, told_first}
 use Rattle.ug_world.specs.Honest.{IsHonest}
 use Rattle.ug_world.specs.Laws.{HonestLoseNothing, LosesNothing}
 use Rattle.ug_world.specs.Plays.{HonestLeave, IsLeftBy}
@@ -32,7 +34,7 @@ use Rattle.ug_world.proofs.Heard.{heard_carries, joined_carries, killed_carries}
 use Rattle.ug_world.proofs.Decided.{decided_carries, stood_carries}
 use Rattle.ug_world.proofs.Trusted.{AreTrue, honest_true, unused_true}
 
--- facts about each world of a course, except that true reports were sent
+-- facts about each world of a trace, except that true reports were sent
 pub record Holds (n : ℕ) (w : World) : Type 0 where
   pub book : IsBook w.book
   pub sound : IsSoundBook w.book
@@ -98,6 +100,18 @@ told_holds n old (first ∷ rest) e h =
       wide = h.wide;
     }
 
+-- a decision, as far as it went
+made_holds : (n : ℕ) (old : World) (new : BookState) (decision : Decision)
+    → IsMadeAsFar decision old.book new → Holds n old → Holds n (record old { book = new })
+made_holds n old new Whole made h =
+    let keeps = decided_keeps old.book new h.book made in
+    moved n old new h (keeps.book h.book) (keeps.sound h.book h.sound)
+    (decided_carries old.told old.sent old.book new h.book made)
+made_holds n old new (CutShort steps) made h =
+    let keeps = stands_keeps steps old.book new h.book made in
+    moved n old new h (keeps.book h.book) (keeps.sound h.book h.sound)
+    (stood_carries old.told old.sent steps old.book new h.book made)
+
 pub event_holds : (n : ℕ) (old new : World) (event : Event) → IsEvent n event
     → Happens old event new → AreTrue old.book old.sent → Holds n old → Holds n new
 event_holds n old new (Send report) is e true_ h =
@@ -121,18 +135,14 @@ event_holds n old new (Gone rank) is e true_ h =
     subst (λ w. Holds n w) (sym e)
     (moved n old (killed rank old.book) h (keeps.book h.book) (keeps.sound h.book h.sound)
     (killed_carries old.told old.sent old.book rank there h.book))
-event_holds n old new Decide is t true_ h = elim t.decided [
-  | inl whole ↦
-      let keeps = decided_keeps old.book new.book h.book whole in
-      subst (λ w. Holds n w) (sym t.rest)
-      (moved n old new.book h (keeps.book h.book) (keeps.sound h.book h.sound)
-      (decided_carries old.told old.sent old.book new.book h.book whole))
-  | inr cut ↦
-      let keeps = stands_keeps cut.steps old.book new.book h.book cut.stands in
-      subst (λ w. Holds n w) (sym t.rest)
-      (moved n old new.book h (keeps.book h.book) (keeps.sound h.book h.sound)
-      (stood_carries old.told old.sent cut.steps old.book new.book h.book cut.stands))
-]
+event_holds n old new Decide is t true_ h =
+    let m = made_holds n old new.book t.decision t.made h in
+    subst (λ w. Holds n w) (sym t.rest) (record {
+      book = m.book;
+      sound = m.sound;
+      known = record { each = m.known.each };
+      wide = m.wide;
+    })
 event_holds n old new Tell is e true_ h =
     subst (λ w. Holds n w) (sym e) (told_holds n old old.book.orders refl h)
 
@@ -198,7 +208,7 @@ left_sound (Some (Send report)) old new book sound e = subst IsSoundBook (sym e)
 left_sound (Some (Hear place rank)) old new book sound e = subst IsSoundBook (sym e) sound
 left_sound (Some (Join rank)) old new book sound e = absurd e
 left_sound (Some (Gone rank)) old new book sound e = absurd e
-left_sound (Some Decide) old new book sound e = absurd e
+left_sound (Some Decide) old new book sound e = subst IsSoundBook (sym e) sound
 left_sound (Some Tell) old new book sound e = subst IsSoundBook (sym e) sound
 
 -- wherever a play stopped

@@ -1,4 +1,4 @@
--- What goes between a coordinator and its crew in a course of actions.
+-- What goes between a coordinator and its crew in a trace of actions.
 use Rattle.std.proofs.Common.{◌≡◌, ◌≢◌, ◌⊎◌, inl, inr, eqb, ℕ, ℤ, ◌<◌, Bool, true, false, List, [], ◌∷◌, ◌++◌, append_assoc, append-nil, length, Option, Some, None, refl, sym, ap, subst, ◌∙◌, arith}
 use Rattle.std.specs.Prelude.{All, Contains, slice_index_or, slice_set}
 use Rattle.std.specs.List.{flat_map}
@@ -34,7 +34,7 @@ use Rattle.ug_serve.proofs.Told.{first_or, in_front}
 use Rattle.ug_serve.proofs.Wires.{fed_so}
 use Rattle.ug_world.proofs.Numbered.{Grows, decided_grows, grows_both, grows_itself, grows_left, heard_grows, killed_grows, stands_grows}
 
--- ---- what a action sends and receives
+-- ---- what an action sends and receives
 
 -- the order that was put in a frame for a rank, if one was; one that comes first has this gap
 abbrev pub sent_in : ℤ → Action → Option Told
@@ -224,7 +224,7 @@ read_more r old new given more (inr (inr (inr t))) h = no_more r new given more 
 abbrev pub Fits : CoordinatorState → Type 0
 Fits s = length s.streams ≡ length s.lives
 
--- what a action does for a rank: an order was put in a frame, one left the queue, a report was
+-- what an action does for a rank: an order was put in a frame, one left the queue, a report was
 -- received
 record IsStep (r : ℕ) (old new : CoordinatorState) (sent left : Option Told) (taken : Option Delivery)
     : Type 0 where
@@ -554,7 +554,7 @@ action_step gap r old Saved new is fit does =
     (ap (λ (s : CoordinatorState). length s.lives) does.rest) fit
     (same_grows old.book new.book (ap (λ (s : CoordinatorState). s.book) does.rest))
 
--- ---- a course
+-- ---- a trace
 
 -- what actions did for a rank
 pub record IsTraffic (gap : ℤ) (r : ℕ) (old new : CoordinatorState) (actions : List Action) : Type 0 where

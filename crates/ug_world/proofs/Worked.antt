@@ -263,7 +263,7 @@ among_heard (action ∷ actions) rank report there =
           (among_heard actions rank report later)
     ]
 
--- ---- at the end of a course
+-- ---- at the end of a trace
 
 pub none_waits : (n r : ℕ) → slice_index_or (replicate n first) r first ≡ first
 none_waits n r = elim (cases_lt r n) [
@@ -366,9 +366,9 @@ module _ (b : BookState) (faults : ℕ) (unused : IsUnused b) (actions : List Ac
       (λ r. reports_from r actions) worked sent_to read_from once apart (heard_of actions) (whose actions)
       (among_heard actions) (IsGivenWith b.problem all) its_box)
 
--- ---- through a course
+-- ---- through a trace
 
--- what a action adds to what was sent and received
+-- what an action adds to what was sent and received
 record IsAfter (action : Action) (past : Past) : Type 0 where
   told : (after action past).told ≡ past.told ++ option_to_list (left_in action)
   heard : (after action past).heard ≡ past.heard ++ report_in (taken_in action)

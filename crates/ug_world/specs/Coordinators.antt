@@ -11,18 +11,22 @@ use Rattle.ug_coord.specs.Actions.{Launched, Lost, Passed, Sent, SetUp, Coordina
 use Rattle.ug_coord.specs.Actions.{Unread, Unsent, Unwritten}
 use Rattle.ug_coord.specs.Actions.{Kept as Saved}
 use Rattle.ug_coord.specs.Coordinators.{Reaches, StaysSound, beginning}
+use Rattle.ug_world.specs.declared.decision.Decision.{Decision}
+use Rattle.ug_world.specs.declared.decision.Decision.TheVariants.{Whole, CutShort}
 use Rattle.ug_world.specs.Honest.{IsGivenWith}
 use Rattle.ug_world.specs.Laws.{LosesNothing}
 
--- the orders that left the queue so far, the reports that were received, and their answers
+-- the orders that left the queue so far, the reports that were received, their answers, and how far
+-- each decision went
 pub record Past : Type 0 where
   pub told : List Told
   pub heard : List Report
   pub replies : List Heard
+  pub decisions : List Decision
 
 -- before the first action
 abbrev pub nothing : Past
-nothing = record { told = []; heard = []; replies = [] }
+nothing = record { told = []; heard = []; replies = []; decisions = [] }
 
 -- an order more
 abbrev pub with_order : Past → Told → Past
@@ -33,9 +37,15 @@ abbrev pub with_report : Past → Report → Heard → Past
 with_report past report answer =
     record past { heard = past.heard ++ report ∷ []; replies = past.replies ++ answer ∷ [] }
 
--- behind a action
+-- a decision more
+abbrev pub with_decision : Past → Decision → Past
+with_decision past decision = record past { decisions = past.decisions ++ decision ∷ [] }
+
+-- behind an action
 abbrev pub after : Action → Past → Past
 after (Took rank report answer) past = with_report past report answer
+after Decided past = with_decision past Whole
+after (Halted steps) past = with_decision past (CutShort steps)
 after (Sent rank order) past = with_order past (record { rank = rank; order = order })
 after (Unsent rank order) past = with_order past (record { rank = rank; order = order })
 after (Passed rank order) past = with_order past (record { rank = rank; order = order })
@@ -75,7 +85,7 @@ StaysHonest old past (action ∷ actions) new (mid, does, more) = honest_at old 
     × (IsHonestSo mid.book (after action past).told (after action past).heard
     × StaysHonest mid (after action past) actions new more)
 
--- the reports received are honest through a course from the beginning
+-- the reports received are honest through a trace from the beginning
 abbrev pub IsHonestFrom : (b : BookState) (faults : ℕ) (now : CoordinatorState) → Reaches (beginning b faults) now
     → Type 0
 IsHonestFrom b faults now come = StaysHonest (beginning b faults) nothing come.actions now come.trace

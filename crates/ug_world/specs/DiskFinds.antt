@@ -1,4 +1,4 @@
--- Which image recovery finds, at each moment of a course: one of a moment so far, and none that is
+-- Which image recovery finds, at each moment of a trace: one of a moment so far, and none that is
 -- older than the last acknowledged one.
 use Rattle.std.specs.Prelude.{◌≡◌, ◌⊎◌, ℕ, ◌<◌, ◌≤◌, List, [], ◌∷◌, Contains, None, Some}
 use Rattle.ug_disk.specs.Crashes.{Leaves, MayLeaveBoth}

@@ -22,6 +22,7 @@ pub record IsLeftOf (w : DiskWorld) (left : PlayedDisk) : Type 0 where
   pub disk : history_of left.disk ≡ w.told
   pub faults : faults_of left.disk ≡ w.faults
   pub replies : left.replies ≡ w.world.replies
+  pub decisions : left.decisions ≡ w.world.decisions
   pub attempts : left.attempts ≡ w.attempts
 
 -- the first `done` events happened, one after another, and led to this world

@@ -173,7 +173,7 @@ abbrev pub last_left : History → List DiskEvent → History
 last_left told [] = told
 last_left told (event ∷ events) = last_left (left_by event told) events
 
--- the world at the end of a course
+-- the world at the end of a trace
 abbrev pub disk_end_of : DiskWorld → List DiskWorld → DiskWorld
 disk_end_of old [] = old
 disk_end_of old (new ∷ trace) = disk_end_of new trace

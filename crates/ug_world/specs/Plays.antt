@@ -3,7 +3,7 @@ use Rattle.std.specs.Prelude.{◌≡◌, ℕ, ◌<◌, List, [], length, take, A
 use Rattle.std.specs.Prelude.{Ok, Err, slice_get}
 use Rattle.ug_rules.specs.State.{BookState}
 use Rattle.ug_world.specs.declared.event.Event.{Event}
-use Rattle.ug_world.specs.declared.event.Event.TheVariants.{Send, Hear, Tell}
+use Rattle.ug_world.specs.declared.event.Event.TheVariants.{Send, Hear, Decide, Tell}
 use Rattle.ug_world.specs.declared.schedule.Played.{Played}
 use Rattle.ug_world.specs.declared.schedule.PlayFault.{PlayFault}
 use Rattle.ug_world.specs.declared.schedule.PlayFault.TheVariants.{NoSuch, Memory}
@@ -13,12 +13,12 @@ use Rattle.ug_world.specs.Honest.{IsHonest}
 use Rattle.ug_world.specs.Laws.{LosesNothing}
 
 -- the effect of the next event, if there is one, when a schedule stops: none if a report is not
--- sent or received, or an order not sent; no rank fails to join or to be lost, and no decision
--- fails to be made, as far as memory goes
+-- sent or received, an order not sent, or a decision not begun; no rank fails to join or to be lost
 abbrev pub IsLeftBy : Option Event → BookState → BookState → Type 0
 IsLeftBy None old new = new ≡ old
 IsLeftBy (Some (Send report)) old new = new ≡ old
 IsLeftBy (Some (Hear place rank)) old new = new ≡ old
+IsLeftBy (Some Decide) old new = new ≡ old
 IsLeftBy (Some Tell) old new = new ≡ old
 IsLeftBy event old new = ⊥
 
@@ -33,6 +33,7 @@ pub record IsPlayed (b : BookState) (events : List Event) (played : Played) : Ty
   pub trace : List World
   pub after : IsAfter b events (length events) trace played.book
   pub replies : played.replies ≡ (end_of (opening b []) trace).replies
+  pub decisions : played.decisions ≡ (end_of (opening b []) trace).decisions
 
 -- this number of events happened, and the next is the first that receives a report that was not
 -- sent

@@ -1,6 +1,6 @@
 -- The world between two events, and what an event does: the rules of the coordinator, and the list
 -- of what was sent.
-use Rattle.std.specs.Prelude.{◌≡◌, ◌⊎◌, ℕ, List, [], ◌∷◌, ◌++◌, Some, slice_get}
+use Rattle.std.specs.Prelude.{◌≡◌, ℕ, List, [], ◌∷◌, ◌++◌, Some, slice_get}
 use Rattle.ug_frames.specs.declared.report.Report.{Report}
 use Rattle.ug_frames.specs.declared.report.Report.TheVariants.{Ready}
 use Rattle.ug_rules.specs.declared.heard.Heard.{Heard}
@@ -10,20 +10,23 @@ use Rattle.ug_rules.specs.Deaths.{killed}
 use Rattle.ug_rules.specs.Deciding.{IsDecided, Stands}
 use Rattle.ug_rules.specs.Hearing.{IsDue, after_hearing, kept}
 use Rattle.ug_rules.specs.HearingLaws.{HasRisingChanges}
+use Rattle.ug_world.specs.declared.decision.Decision.{Decision}
+use Rattle.ug_world.specs.declared.decision.Decision.TheVariants.{Whole, CutShort}
 use Rattle.ug_world.specs.declared.event.Event.{Event}
 use Rattle.ug_world.specs.declared.event.Event.TheVariants.{Send, Hear, Join, Gone, Decide, Tell}
 
--- the book, the orders of its run that were sent, the reports that were sent, and the answers to
--- those that were received, each with the earliest first
+-- the book, the orders of its run that were sent, the reports that were sent, the answers to those
+-- that were received, and how far each decision went, each with the earliest first
 pub record World : Type 0 where
   pub book : BookState
   pub told : List Told
   pub sent : List Report
   pub replies : List Heard
+  pub decisions : List Decision
 
 -- before the first event: these reports were sent earlier, as those of earlier runs
 abbrev pub opening : BookState → List Report → World
-opening b earlier = record { book = b; told = []; sent = earlier; replies = [] }
+opening b earlier = record { book = b; told = []; sent = earlier; replies = []; decisions = [] }
 
 -- the report at this place, whose changes rise as their type has it, is received from a rank and
 -- gets the answer that is due, which may be that memory ran out for a hand; it stays among those
@@ -39,15 +42,19 @@ pub record IsHeard (old : World) (place rank : ℕ) (new : World) : Type 0 where
     replies = old.replies ++ answer ∷ [];
   }
 
--- memory ran out in a decision, and the first steps of it stand
-pub record IsCutShort (old new : BookState) : Type 0 where
-  pub steps : ℕ
-  pub stands : Stands steps old new
+-- a decision that went this far: it was made, or memory ran out and this number of its steps stand
+abbrev pub IsMadeAsFar : Decision → BookState → BookState → Type 0
+IsMadeAsFar Whole old new = IsDecided old new
+IsMadeAsFar (CutShort steps) old new = Stands steps old new
 
--- the coordinator decides, or some steps of that stand
+-- the coordinator decides as far as memory goes, and how far that was is recorded
 pub record HasDecided (old new : World) : Type 0 where
-  pub decided : IsDecided old.book new.book ⊎ IsCutShort old.book new.book
-  pub rest : new ≡ record old { book = new.book }
+  pub decision : Decision
+  pub made : IsMadeAsFar decision old.book new.book
+  pub rest : new ≡ record old {
+    book = new.book;
+    decisions = old.decisions ++ decision ∷ [];
+  }
 
 -- the first queued order, if there is one, is sent: it leaves the queue
 abbrev pub told_first : List Told → World → World
@@ -71,7 +78,7 @@ IsTrace old (event ∷ events) (new ∷ trace) = Happens old event new × IsTrac
 IsTrace old [] (new ∷ trace) = ⊥
 IsTrace old (event ∷ events) [] = ⊥
 
--- the world at the end of a course
+-- the world at the end of a trace
 abbrev pub end_of : World → List World → World
 end_of old [] = old
 end_of old (new ∷ trace) = end_of new trace

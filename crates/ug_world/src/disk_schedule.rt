@@ -10,7 +10,7 @@ ghost use Rattle.ug_world.specs.DiskPlays.{HonestLeaveOnDisk, IsLeftOf, IsPlayed
 use crate::disk_event::DiskEvent;
 use crate::halt::Halted;
 use crate::machine::Machine;
-use crate::schedule::Replies;
+use crate::schedule::{Decisions, Replies};
 use std::alloc::Global;
 use ug_book::Book;
 use ug_checkpoint::Saver;
@@ -22,13 +22,14 @@ use ug_restart::Attempt;
 pub type Attempts = Items<Attempt>;
 
 /// Result of a schedule: the book and the saver of the last run, the disk, the answers to the
-/// reports received, and the result of each save.
+/// reports received, how far each decision went, and the result of each save.
 #[derive(Drop)]
 pub struct PlayedDisk {
     pub book: Book,
     pub saver: Saver,
     pub disk: MemoryDisk,
     pub replies: Replies,
+    pub decisions: Decisions,
     pub attempts: Attempts,
 }
 
@@ -44,7 +45,7 @@ pub struct PlayDiskFault {
 /// restarts. A restart that is refused leaves no run, and the schedule stops there unless another
 /// restart follows.
 ///
-/// The result of each save is recorded, and a save or a restart fails for the disk only if the disk
+/// The result of each decision and save is recorded, and a save or a restart fails for the disk only if the disk
 /// failed. As long as solvers are honest each better point lies in a primitive node of the book,
 /// and in a node of an image that recovery finds whatever a crash leaves, at each moment of a save
 /// too.

@@ -12,7 +12,7 @@ pub enum Event {
     Join { rank: u32 },
     /// A rank is taken for dead, rightly or not.
     Gone { rank: u32 },
-    /// The coordinator decides, as far as memory goes.
+    /// The coordinator decides, as far as memory goes; how far is recorded.
     Decide,
     /// The first queued order is sent, and leaves the queue. Nothing happens if none is queued.
     Tell,

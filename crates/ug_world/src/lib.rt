@@ -6,6 +6,7 @@
 //! such a schedule.
 #![tactic(auto)]
 
+mod decision;
 mod disk_event;
 mod disk_law;
 mod disk_schedule;
@@ -20,6 +21,7 @@ mod schedule;
 mod starting;
 mod workers;
 
+pub use decision::Decision;
 pub use disk_event::DiskEvent;
 pub use disk_law::{crashes_lose_nothing, runs_begin};
 pub use disk_schedule::{Attempts, PlayDiskFault, PlayedDisk, play_disk};
@@ -30,5 +32,5 @@ pub use law::{
     honest_solvers_lose_nothing,
 };
 pub use playing::{Halt, Playing};
-pub use schedule::{PlayFault, Played, Replies, play};
+pub use schedule::{Decisions, PlayFault, Played, Replies, play};
 pub use workers::solve_by_workers;

@@ -10,7 +10,7 @@ use crate::disk_event::DiskEvent;
 use crate::disk_schedule::PlayedDisk;
 use crate::event::Event;
 use crate::halt::Halted;
-use crate::playing::Playing;
+use crate::playing::{Left, Playing};
 use crate::ranks::check_rank;
 use crate::saving::save;
 use crate::starting::begin_again;
@@ -75,12 +75,17 @@ impl Machine {
             ..
         } = self;
         drop(noted);
-        let (book, replies) = playing.end();
+        let Left {
+            book,
+            replies,
+            decisions,
+        } = playing.end();
         PlayedDisk {
             book,
             saver,
             disk,
             replies: Items::from_vec(replies),
+            decisions: Items::from_vec(decisions),
             attempts: Items::from_vec(attempts),
         }
     }

@@ -2,7 +2,6 @@ ghost use Rattle.std.specs.Prelude.{◌≡◌, ◌<◌, [], length, slice_get, A
 ghost use Rattle.ug_frames.specs.declared.report.Report.{Report};
 ghost use Rattle.ug_rules.specs.Books.{IsBook};
 ghost use Rattle.ug_book.specs.Views.{IsSameRun};
-ghost use Rattle.ug_rules.specs.Deciding.{Stands};
 ghost use Rattle.ug_rules.specs.Hearing.{IsHearable};
 ghost use Rattle.ug_rules.specs.HearingLaws.{HasRisingChanges};
 ghost use Rattle.ug_world.specs.declared.playing.Halt.TheVariants.{NoSuch, Memory};
@@ -10,6 +9,7 @@ ghost use Rattle.ug_world.specs.Events.{IsEvent};
 ghost use Rattle.ug_world.specs.Worlds.{Happens, HasDecided, IsHeard, opening};
 ghost use Rattle.ug_world.specs.Halts.{IsHalted, IsNotThere};
 
+use crate::decision::Decision;
 use crate::event::Event;
 use std::alloc::{AllocError, AllocFailed, Global};
 use std::marker::Model;
@@ -42,14 +42,24 @@ impl<T: Drop> From<AllocFailed<T>> for Halt {
     }
 }
 
-/// A schedule that is played: the book, which of its orders were sent, what was sent, and the
-/// answers to the reports received.
+/// A schedule that is played: the book, which of its orders were sent, what was sent, the answers
+/// to the reports received, and how far each decision went.
 #[derive(Drop)]
 pub struct Playing {
     book: Book,
     told: Vec<Told>,
     sent: Vec<Report>,
     replies: Vec<Heard>,
+    decisions: Vec<Decision>,
+}
+
+/// What a schedule leaves: the book, the answers to the reports received, and how far each decision
+/// went, the earliest first.
+#[derive(Drop)]
+pub struct Left {
+    pub book: Book,
+    pub replies: Vec<Heard>,
+    pub decisions: Vec<Decision>,
 }
 
 impl Model for Playing {
@@ -64,6 +74,7 @@ impl Model for Playing {
       told = playing.told.items;
       sent = playing.sent.items;
       replies = playing.replies.items;
+      decisions = playing.decisions.items;
     } };
 
     ghost invariant = { λ playing. All IsHearable playing.sent.items };
@@ -82,6 +93,7 @@ impl Playing {
             told: Vec::new(alloc),
             sent: Vec::new(alloc),
             replies: Vec::new(alloc),
+            decisions: Vec::new(alloc),
         }
     }
 
@@ -104,20 +116,26 @@ impl Playing {
         self.told.clear();
     }
 
-    /// The book and the replies.
-    pub fn end(self) -> (Book, Vec<Heard>)
-        ensures book { result.0 ≡ self.book }
-        ensures replies { result.1.items ≡ self.replies }
+    /// The book, the replies and the decisions.
+    pub fn end(self) -> Left
+        ensures book { result.book ≡ self.book }
+        ensures replies { result.replies.items ≡ self.replies }
+        ensures decisions { result.decisions.items ≡ self.decisions }
     {
         let Playing {
             book,
             told,
             sent,
             replies,
+            decisions,
         } = self;
         drop(told);
         drop(sent);
-        (book, replies)
+        Left {
+            book,
+            replies,
+            decisions,
+        }
     }
 
     /// An event happens. After an error nothing has changed.
@@ -139,10 +157,7 @@ impl Playing {
                 self.book.gone(*rank);
                 Ok(())
             }
-            Event::Decide => {
-                self.decide();
-                Ok(())
-            }
+            Event::Decide => self.decide(),
             Event::Tell => self.tell(),
         }
     }
@@ -176,12 +191,21 @@ impl Playing {
     }
 
     // The coordinator decides, as far as memory goes.
-    fn decide(&mut self)
-        ensures decided { HasDecided self.old self.new }
+    fn decide(&mut self) -> Result<(), Halt>
+        ensures decided { OnOk result (HasDecided self.old self.new) }
+        ensures err { IfErr result (λ halt. (halt ≡ Memory) × (self.new ≡ self.old)) }
         ensures wide { length self.new.book.ranks ≡ length self.old.book.ranks }
         ensures same { IsSameRun self.old.book self.new.book }
     {
-        let _ = self.book.decide();
+        self.decisions.reserve(1)?;
+        let decision = match self.book.decide() {
+            Ok(()) => Decision::Whole,
+            Err(unfinished) => Decision::CutShort {
+                steps: unfinished.stood,
+            },
+        };
+        self.decisions.push(decision)?;
+        Ok(())
     }
 
     // Sends the first queued order.

@@ -4,8 +4,9 @@ ghost use Rattle.ug_world.specs.Events.{IsEvent};
 ghost use Rattle.ug_world.specs.Halts.{fault_of};
 ghost use Rattle.ug_world.specs.Plays.{AreAllThere, HonestLeave, IsPlayed, IsStopped, book_left};
 
+use crate::decision::Decision;
 use crate::event::Event;
-use crate::playing::{Halt, Playing};
+use crate::playing::{Halt, Left, Playing};
 use std::alloc::Global;
 use ug_book::Book;
 use ug_lists::Items;
@@ -14,11 +15,15 @@ use ug_rules::Heard;
 /// The answers to the reports received, the earliest first.
 pub type Replies = Items<Heard>;
 
+/// How far each decision went, the earliest first.
+pub type Decisions = Items<Decision>;
+
 /// A schedule that was played to its end.
 #[derive(Drop)]
 pub struct Played {
     pub book: Book,
     pub replies: Replies,
+    pub decisions: Decisions,
 }
 
 /// Why a schedule was not played to its end.
@@ -26,19 +31,19 @@ pub struct Played {
 pub enum PlayFault {
     /// An event receives the report at this place, which was not sent. The book is as it was then.
     NoSuch { place: usize, book: Book },
-    /// Memory ran out in the event after `done` events. The book is as it was then, except for the
-    /// steps of a decision that stand.
+    /// Memory ran out in the event after `done` events. The book is as it was then.
     Memory { book: Book, done: usize },
 }
 
 /// Plays a schedule: makes the calls of the book that the events are, one after another. A report
-/// may be received often, from any rank, or never. The orders stay in the book.
+/// may be received often, from any rank, or never. The orders stay in the book. A decision that
+/// runs out of memory does not stop the schedule: the result says how far each one went.
 ///
 /// Solvers need not be honest. As long as they are, a sound book that has given no ticket stays
 /// sound, and each better point lies in one of its primitive nodes.
 pub fn play(alloc: Global, book: Book, events: &[Event]) -> Result<Played, PlayFault>
     requires { All (IsEvent (length book.ranks)) events.now }
-    // The book and the replies are those of the rules, event by event.
+    // The book, the replies and the decisions are those of the rules, event by event.
     ensures played { IfOk result (IsPlayed book events.now) }
     ensures stopped { IfErr result (IsStopped book events.now) }
     ensures there { OnOk result (AreAllThere events.now) }
@@ -52,10 +57,16 @@ pub fn play(alloc: Global, book: Book, events: &[Event]) -> Result<Played, PlayF
             Err(halt) => return Err(stop(playing, halt, done)),
         }
     }
-    let (book, replies) = playing.end();
+    let left = playing.end();
+    let Left {
+        book,
+        replies,
+        decisions,
+    } = left;
     Ok(Played {
         book,
         replies: Items::from_vec(replies),
+        decisions: Items::from_vec(decisions),
     })
 }
 
@@ -63,8 +74,13 @@ pub fn play(alloc: Global, book: Book, events: &[Event]) -> Result<Played, PlayF
 fn stop(playing: Playing, halt: Halt, done: usize) -> PlayFault
     ensures { result ≡ fault_of halt done playing.book }
 {
-    let (book, replies) = playing.end();
+    let Left {
+        book,
+        replies,
+        decisions,
+    } = playing.end();
     drop(replies);
+    drop(decisions);
     match halt {
         Halt::NoSuch { place } => PlayFault::NoSuch { place, book },
         Halt::Memory => PlayFault::Memory { book, done },

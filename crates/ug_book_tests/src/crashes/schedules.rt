@@ -5,6 +5,7 @@ ghost use Rattle.ug_world.specs.DiskEvents.{IsDiskEvent};
 
 use crate::crashes::slots::{disk_with, nothing, settings, slot_of};
 use crate::expect::{holds, holds_at, same_at};
+use crate::worlds::are_made;
 use std::alloc::Global;
 use ug_book::{Answered, Book};
 use ug_checkpoint::Saver;
@@ -188,7 +189,7 @@ fn answer_of(played: &Result<PlayedDisk, PlayDiskFault>) -> Answer {
 const NO_GREATER_GAP: Halted = Halted::Refused(StartFault::SmallerGap { kept: 3, asked: 0 });
 
 const SCHEDULES: &[(&str, u8, Answer)] = &[
-    ("jdnsfe0x1rjdfe23nsx", 0, Ok((3, 4))),
+    (ANSWERED, 0, Ok((3, 4))),
     ("tjdtnstfe0tx1rtjdtfe2t3nsxt", 0, Ok((3, 4))),
     ("jd0", 0, Err((Halted::NoSuch { place: 0 }, 2))),
     ("J", 0, Err((Halted::NoRank { rank: 5 }, 0))),
@@ -216,16 +217,20 @@ fn schedules_end_or_say_why_not(rt: HostRuntime) {
     }
 }
 
-// Whether the point without values is the answer, after these replies.
+// A schedule with two runs, in which the answer is found.
+const ANSWERED: &str = "jdnsfe0x1rjdfe23nsx";
+
+// Whether the point without values is the answer, after these replies and all decisions.
 fn is_answered(played: &PlayedDisk) -> bool {
     let replies = [Heard::Kept, Heard::Stale, Heard::Kept, Heard::Kept];
     played.replies.as_slice() == replies.as_slice()
+        && are_made(played.decisions.as_slice(), ANSWERED)
         && matches!(played.book.answer(), Some(Answered::Optimal(_)))
 }
 
 #[test]
 fn report_of_an_earlier_run_is_stale(rt: HostRuntime) {
-    let played = play(rt.alloc(), "jdnsfe0x1rjdfe23nsx", 0, u64::MAX);
+    let played = play(rt.alloc(), ANSWERED, 0, u64::MAX);
     holds(
         &rt,
         matches!(&played, Some(Ok(played)) if is_answered(played)),

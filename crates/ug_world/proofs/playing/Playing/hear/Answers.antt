@@ -11,6 +11,7 @@ returns-clause-heard c =
       told = c.self.inside.told.items;
       sent = c.self.inside.sent.items;
       replies = c.self.inside.replies.items;
+      decisions = c.self.inside.decisions.items;
     } in
     let there : slice_get c.self.inside.sent.items c.args.place ≡ Some c.in_ok-report.report =
     search rules in
