@@ -175,7 +175,7 @@ no_fewer_rows p (m ∷ lists) cutoff old new (next, step, rest) = elim step [
   | inr left ↦ omega (arith, ap length left.same, no_fewer_rows p lists cutoff next new rest)
 ]
 
--- where there are no more rows, they are the same
+-- if there are no more rows, they are the same
 pub no_rows_added : (p : Instance) (lists : List Multipliers) (cutoff : ℤ) (old new : List NamedRow)
     → IsWithRowsOf p lists cutoff old new → length new ≤ length old → new ≡ old
 no_rows_added p [] cutoff old new h short = h
@@ -191,7 +191,7 @@ no_rows_added p (m ∷ lists) cutoff old new (next, step, rest) short = elim ste
       (omega (arith, short, ap length left.same)) ∙ left.same
 ]
 
--- where no row has changed and none was added, the rows are the same
+-- if no row has changed and none was added, the rows are the same
 pub same_if_none_added : (p : Instance) (lists : List Multipliers) (cutoff : ℤ)
     (old mid new : List NamedRow)
     (changed more : Bool) → changed ≡ false → OnFalse changed (mid ≡ old)

@@ -119,7 +119,7 @@ pub record IsLeftOut (p : Instance) (m : Multipliers) (cutoff : ℤ) (old new : 
   pub same : new ≡ old
   pub cause : HasNoRow p m cutoff ⊎ HasNoRoom p m cutoff old
 
--- the row of the multipliers is behind the old ones, or is left out for one of these causes
+-- the row of the multipliers is behind the old ones, or is omitted for one of these causes
 abbrev pub IsWithRowOf : Instance → Multipliers → ℤ → List NamedRow → List NamedRow → Type 0
 IsWithRowOf p m cutoff old new = IsAdded p m cutoff old new ⊎ IsLeftOut p m cutoff old new
 
