@@ -18,11 +18,10 @@ use std::alloc::Global;
 use std::sync::Wait;
 use ug_book::Opening;
 use ug_coord::Coordinated;
+use ug_model::{Visit, WorkerCrew, solve_by_workers};
 use ug_mps::read;
 use ug_problem::{Problem, Shared};
 use ug_restart::{Host, Unobserved};
-use ug_serve::{Visit, WorkerCrew};
-use ug_world::solve_by_workers;
 
 // Whether workers that are visited so give a right answer to the opening, and no call of their crew
 // fails. This is the least value, if a point is feasible.

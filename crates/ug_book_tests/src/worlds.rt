@@ -3,7 +3,7 @@
 
 ghost use Rattle.std.specs.Prelude.{◌≡◌, length, All, IfSome};
 ghost use Rattle.ug_rules.specs.Hearing.{IsHearable};
-ghost use Rattle.ug_world.specs.Events.{IsEvent};
+ghost use Rattle.ug_laws.specs.Events.{IsEvent};
 
 use crate::expect::holds_at;
 use crate::problems::square;
@@ -11,11 +11,12 @@ use std::alloc::Global;
 use ug_book::{Book, Opening};
 use ug_branch::Base;
 use ug_frames::{Ending, Report};
+use ug_laws::{Decision, Event};
+use ug_model::{PlayFault, Played, play};
 use ug_nodes::Ticket;
 use ug_problem::Shared;
 use ug_rows::Point;
 use ug_rules::{Heard, Settings};
-use ug_world::{Decision, Event, PlayFault, Played, play};
 
 // A book of the square with one rank.
 fn begin(alloc: Global) -> Option<Book> {

@@ -24,13 +24,13 @@ use Rattle.ug_stream.specs.Streams.{Waiting}
 use Rattle.ug_serve.specs.Traces.{IsTrace, ServerState, beginning}
 use Rattle.ug_serve.specs.CrewLaws.{AreReportsAt, reports_of}
 use Rattle.ug_serve.specs.Actions.{Action, Came, Took, Told}
-use Rattle.ug_serve.specs.Queues.{heard_in}
-use Rattle.ug_serve.specs.SimWorkers.{AreWorked, IsWorked, told_at}
+use Rattle.ug_serve.specs.LinkBytes.{heard_in}
+use Rattle.ug_serve.specs.Worked.{AreWorked, IsWorked, told_at}
 use Rattle.ug_serve.specs.Transcripts.{IsTranscript, Ordered, order_of, reports_in, turned, work_of}
 use Rattle.ug_serve.specs.Laws.{AreOnce, IsOrderedTo, IsSetUpFor, tickets_by, tickets_in, tickets_of, told_by}
 use Rattle.ug_serve.proofs.Heard.{front_orders, workers_are_heard}
 use Rattle.ug_serve.proofs.Honesty.{in_among, nothing_in, once_front, once_rest, same_work, told_there, told_ticket, work_count, workers_are_honest}
-use Rattle.ug_serve.proofs.Queues.{heard_more, heard_still}
+use Rattle.ug_serve.proofs.LinkBytes.{heard_more, heard_still}
 use Rattle.ug_serve.proofs.Told.{behind, came_is_no_order, first_or, in_front, same_order, told_is_no_order}
 use Rattle.ug_serve.proofs.Wires.{fed_fine, fed_so}
 

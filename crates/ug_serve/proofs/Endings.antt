@@ -13,7 +13,7 @@ use Rattle.ug_serve.specs.Traces.{Reaches, IsTrace, ServerState, beginning}
 use Rattle.ug_serve.specs.CrewLaws.{reports_of}
 use Rattle.ug_serve.specs.Actions.{Blank, Busy, Came, Action, Ending, Free, IsTaken, IsTold, Over, SetUp, Stage, Told, Took}
 use Rattle.ug_serve.specs.Endings.{ServicesEndInOneWay}
-use Rattle.ug_serve.specs.Queues.{told_in}
+use Rattle.ug_serve.specs.LinkBytes.{told_in}
 use Rattle.ug_serve.specs.Serving.{IsOpen}
 use Rattle.ug_serve.proofs.Heard.{all_carried, one_way, shown_told}
 use Rattle.ug_serve.proofs.Told.{behind, first_or, in_front, none_there}

@@ -19,10 +19,10 @@ use Rattle.ug_stream.proofs.Reading.{in_one_way}
 use Rattle.ug_serve.specs.Traces.{Reaches, IsTrace, ServerState, beginning}
 use Rattle.ug_serve.specs.CrewLaws.{WorkersAreHeard, reports_of}
 use Rattle.ug_serve.specs.Actions.{Action, Came, Took, Told}
-use Rattle.ug_serve.specs.Queues.{heard_in, told_in}
+use Rattle.ug_serve.specs.LinkBytes.{heard_in, told_in}
 use Rattle.ug_serve.specs.Serving.{IsPartTold}
-use Rattle.ug_serve.specs.SimWorkers.{heard_at}
-use Rattle.ug_serve.proofs.Queues.{heard_more, heard_still, told_more, told_still}
+use Rattle.ug_serve.specs.Worked.{heard_at}
+use Rattle.ug_serve.proofs.LinkBytes.{heard_more, heard_still, told_more, told_still}
 use Rattle.ug_serve.proofs.Transcribed.{traces_are_transcripts}
 use Rattle.ug_serve.proofs.Wires.{trace_more}
 

@@ -2,8 +2,8 @@ pub mod Tellings
 pub mod Wires
 pub mod Seating
 pub mod Servers
-pub mod Queues
-pub mod SimWorkers
+pub mod LinkBytes
+pub mod Worked
 pub mod Carried
 pub mod Told
 pub mod Transcribed

@@ -13,7 +13,7 @@ use Rattle.ug_frames.specs.OrderFrames as orders
 use Rattle.ug_serve.specs.Traces.{beginning}
 use Rattle.ug_serve.specs.CrewLaws.{AreReportsAt, reports_of}
 use Rattle.ug_serve.specs.Actions.{Basis, Action, Came, Took, Told}
-use Rattle.ug_serve.specs.SimWorkers.{IsWorked}
+use Rattle.ug_serve.specs.Worked.{IsWorked}
 use Rattle.ug_serve.specs.Transcripts.{AreSaid, IsSaid, IsSetUpWith, turned}
 use Rattle.ug_serve.proofs.Crewed.{IsSentTo, heard_parts, taken_carried, taken_of, told_kept, took_turned}
 use Rattle.ug_serve.proofs.Heard.{front_orders, workers_are_heard}

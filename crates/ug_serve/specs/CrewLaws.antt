@@ -6,8 +6,8 @@ use Rattle.ug_frames.specs.declared.report.Report.{Report}
 use Rattle.ug_frames.specs.ReportFrames as reports
 use Rattle.ug_serve.specs.Traces.{IsTrace, ServerState, beginning}
 use Rattle.ug_serve.specs.Actions.{Action, Came, Took, Told}
-use Rattle.ug_serve.specs.Queues.{heard_in}
-use Rattle.ug_serve.specs.SimWorkers.{IsWorked, heard_at, told_at}
+use Rattle.ug_serve.specs.LinkBytes.{heard_in}
+use Rattle.ug_serve.specs.Worked.{IsWorked, heard_at, told_at}
 use Rattle.ug_serve.specs.Transcripts.{IsTranscript, turned}
 
 -- the reports that were sent, in order

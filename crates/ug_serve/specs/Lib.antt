@@ -6,9 +6,8 @@ pub mod Keeping
 pub mod Seats
 pub mod SeatViews
 pub mod Servers
-pub mod Queues
-pub mod SimWorkers
-pub mod WorkerCrews
+pub mod LinkBytes
+pub mod Worked
 pub mod Transcripts
 pub mod Laws
 pub mod CrewLaws

@@ -46,9 +46,10 @@ pub struct Moved<L> {
 /// each box that is ordered, until the end is ordered.
 #[derive(Drop)]
 pub struct Server<L> {
-    pub(crate) alloc: Global,
-    pub(crate) post: Option<Post>,
-    pub(crate) wire: Wire<L>,
+    pub alloc: Global,
+    /// What it has once the problem is there.
+    pub post: Option<Post>,
+    pub wire: Wire<L>,
 }
 
 /// What a worker at a link has once the problem is there.

@@ -26,11 +26,11 @@ const READ: usize = 65_536;
 pub struct Wire<L> {
     pub alloc: Global,
     pub orders: Assembler,
-    // The buffer for bytes received.
+    /// The buffer for bytes received.
     pub input: Vec<u8>,
-    // The frame that is sent.
+    /// The frame that is sent.
     pub frame: Vec<u8>,
-    // The place, among all bytes received, at which the last order began.
+    /// The place, among all bytes received, at which the last order began.
     pub at: u64,
     /// How the service ended, where it has.
     pub end: Option<Served>,

@@ -17,7 +17,7 @@ use Rattle.ug_restart.specs.declared.outcome.End.{End}
 use Rattle.ug_restart.specs.declared.outcome.Outcome.{Outcome}
 use Rattle.ug_restart.specs.declared.outcome.End.TheVariants.{Answered, Limited, Stranded, Memory}
 use Rattle.ug_restart.specs.Outcomes.{HasFeasible, IfAnswered, IfBook, IsRight, IsStranded}
-use Rattle.ug_world.specs.Coordinators.{CoordinatorsLoseNothing}
+use Rattle.ug_laws.specs.Coordinators.{CoordinatorsLoseNothing}
 use Rattle.ug_top.specs.Solved.{CountsSaves, Crewed, HasSolved, StaysCalm}
 use Rattle.ug_top.proofs.Solved.{solved_feasible, solved_right, solved_same, strands_so}
 use Rattle.ug_disk.specs.Histories.{DiskSeen, History}

@@ -30,9 +30,9 @@ use Rattle.ug_rules.specs.declared.settings.Settings.{Settings}
 use Rattle.ug_cli.specs.declared.plan.Mode.{Mode}
 use Rattle.ug_cli.specs.declared.plan.Mode.TheVariants.{Threads, Processes}
 use Rattle.ug_cli.specs.Taken.{crew_of}
-use Rattle.ug_world.specs.Coordinators.{CoordinatorsLoseNothing}
-use Rattle.ug_world.specs.Calm.{CalmWorkersLive}
-use Rattle.ug_world.proofs.Solved.{never_stranded}
+use Rattle.ug_laws.specs.Coordinators.{CoordinatorsLoseNothing}
+use Rattle.ug_laws.specs.Calm.{CalmWorkersLive}
+use Rattle.ug_laws.proofs.Solved.{never_stranded}
 use Rattle.ug_book.specs.declared.opening.Opening.{Opening}
 use Rattle.ug_book.specs.Openings.{IsOpening, opening_book}
 use Rattle.ug_io.specs.declared.crew.Exchange.{Exchange}

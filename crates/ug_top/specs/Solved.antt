@@ -10,12 +10,12 @@ use Rattle.ug_restart.specs.declared.outcome.End.{End}
 use Rattle.ug_restart.specs.Moments.{AllCovered}
 use Rattle.ug_restart.specs.Openings.{CoversWhatIsFound}
 use Rattle.ug_restart.specs.Outcomes.{IsStranded}
-use Rattle.ug_serve.specs.SimWorkers.{AreAlwaysWorked}
+use Rattle.ug_serve.specs.Worked.{AreAlwaysWorked}
 use Rattle.ug_threads.specs.Outcomes.{HasEnded}
 use Rattle.ug_coord.specs.Actions.{saves_in}
 use Rattle.ug_coord.specs.Ends as ends
 use Rattle.ug_coord.specs.Coordinators.{HasCoordinated, IsFresh}
-use Rattle.ug_world.specs.Coordinators.{IsHonestFrom}
+use Rattle.ug_laws.specs.Coordinators.{IsHonestFrom}
 use Rattle.ug_top.specs.Outside.{seen_if}
 
 -- the observations of the crew, if there is one, before and after

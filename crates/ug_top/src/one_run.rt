@@ -16,10 +16,10 @@ use std::thread::Threads;
 use ug_book::Opening;
 use ug_disk::Disk;
 use ug_io::Crew;
+use ug_laws::coordinators_lose_nothing;
 use ug_problem::Shared;
 use ug_restart::{End, Host, Observer, Outcome, Start, StartFault, begin, restart, tell_end};
 use ug_rules::Settings;
-use ug_world::coordinators_lose_nothing;
 
 /// Solves the problem without checkpoints, by the crew or by as many threads as the settings have
 /// solvers. The disk is left alone.

@@ -12,9 +12,9 @@ use ug_checkpoint::Saver;
 use ug_coord::{Coordinated, coordinate};
 use ug_disk::Disk;
 use ug_io::Crew;
+use ug_laws::{calm_workers_live, coordinators_lose_nothing};
 use ug_restart::{Host, Observer, Outcome};
 use ug_threads::solve_threads;
-use ug_world::{calm_workers_live, coordinators_lose_nothing};
 
 /// Solves what the opening has left: by the crew, where there is one, and else by as many threads
 /// as the opening's settings have solvers. With a saver the book is saved, and at last the ending

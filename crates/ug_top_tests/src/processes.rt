@@ -4,7 +4,7 @@ ghost use Rattle.std.specs.Prelude.{IfOk, IfSome};
 ghost use Rattle.ug_cli.specs.Taken.{needs_of};
 ghost use Rattle.ug_top.specs.Ends.{HasCrewFor};
 ghost use Rattle.ug_top.specs.Outside.{seen_if};
-ghost use Rattle.ug_serve.specs.WorkerCrews.{crew_seen};
+ghost use Rattle.ug_model.specs.WorkerCrews.{crew_seen};
 
 use crate::commands::{KNAPSACK, OPTIMUM, RUNS, is_open_or_solved, parts_of, shows_its_number};
 use crate::expect::{holds_at, same_at};
@@ -19,8 +19,8 @@ use std::thread::Threads;
 use ug_cli::{Plan, Usage, crossed_is_not_taken, read_words, words_tell_the_needs};
 use ug_disk::MemoryDisk;
 use ug_io::{MemoryLink, MemorySink, MemorySource, Piece, Script};
+use ug_model::{Visit, WorkerCrew};
 use ug_restart::{Host, Unobserved};
-use ug_serve::{Visit, WorkerCrew};
 use ug_top::{Objects, Ran, run};
 
 /// The objects of a run over workers.

@@ -1,7 +1,7 @@
 ghost use Rattle.std.specs.Prelude.{Some, All, IfSome};
 ghost use Rattle.ug_disk.specs.Memories.{history_of};
 ghost use Rattle.ug_checkpoint.specs.Savers.{IsKept};
-ghost use Rattle.ug_world.specs.DiskEvents.{IsDiskEvent};
+ghost use Rattle.ug_laws.specs.DiskEvents.{IsDiskEvent};
 
 use crate::crashes::slots::{disk_with, nothing, settings, slot_of};
 use crate::expect::{holds, holds_at, same_at};
@@ -11,12 +11,13 @@ use ug_book::{Answered, Book};
 use ug_checkpoint::Saver;
 use ug_disk::{MemoryDisk, Slot};
 use ug_frames::{Ending, Report};
+use ug_laws::{DiskEvent, Event};
+use ug_model::{Halted, PlayDiskFault, PlayedDisk, play_disk};
 use ug_nodes::Ticket;
 use ug_problem::Shared;
 use ug_restart::{Attempt, Start, StartFault, begin};
 use ug_rows::Point;
 use ug_rules::Heard;
-use ug_world::{DiskEvent, Event, Halted, PlayDiskFault, PlayedDisk, play_disk};
 
 // A run that has begun on a disk of two empty slots, which stops after one of its calls.
 #[derive(Drop)]

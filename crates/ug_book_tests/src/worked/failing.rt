@@ -17,10 +17,10 @@ use std::sync::Wait;
 use ug_book::Opening;
 use ug_coord::{Coordinated, coordinate};
 use ug_io::{Came, Crew, Failed};
+use ug_model::{Visit, WorkerCrew};
 use ug_mps::read;
 use ug_problem::Shared;
 use ug_restart::{End, Host, Unobserved};
-use ug_serve::{Visit, WorkerCrew};
 
 /// The fault of a crew of workers.
 #[derive(Clone, Copy)]
@@ -61,7 +61,7 @@ struct WrongCrew<'a> {
 }
 
 impl<'a> WrongCrew<'a> {
-    ghost use Rattle.ug_serve.specs.WorkerCrews.{crew_seen};
+    ghost use Rattle.ug_model.specs.WorkerCrews.{crew_seen};
 
     fn new(workers: WorkerCrew<'a>, wrong: Wrong) -> WrongCrew<'a>
         ensures { result.workers ≡ workers.entry }
@@ -135,7 +135,7 @@ impl<'a> WrongCrew<'a> {
 
 impl Crew for WrongCrew<'_> {
     ghost use Rattle.std.specs.Prelude.{None};
-    ghost use Rattle.ug_serve.specs.WorkerCrews.{crew_seen};
+    ghost use Rattle.ug_model.specs.WorkerCrews.{crew_seen};
 
     ghost seen = { λ c. record {
       said = None;

@@ -9,7 +9,7 @@ use crate::served::words::add_reports;
 use std::alloc::Global;
 use std::process::Abort;
 use ug_io::{Came, Crew, zeros};
-use ug_serve::{Visit, WorkerCrew};
+use ug_model::{Visit, WorkerCrew};
 
 /// How the bytes of a worker go: this many visits, each with this many bytes of orders and of
 /// reports at most, and then with all that there is; and how many bytes are received at once, one

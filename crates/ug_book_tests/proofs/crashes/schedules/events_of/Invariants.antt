@@ -1,5 +1,5 @@
 use Rattle.std.specs.Prelude.{All}
-use Rattle.ug_world.specs.DiskEvents.{IsDiskEvent}
+use Rattle.ug_laws.specs.DiskEvents.{IsDiskEvent}
 use Rattle.ug_book_tests.proofs.crashes.schedules.events_of.Given as goal
 
 abbrev pub invariant-loop-letter : goal.invariant-loop-letter

@@ -1,0 +1,12 @@
+pub mod Events
+pub mod Worlds
+pub mod Honest
+pub mod Laws
+pub mod DiskEvents
+pub mod DiskFinds
+pub mod DiskLaws
+pub mod Machines
+pub mod Saves
+pub mod Coordinators
+pub mod Workers
+pub mod Calm

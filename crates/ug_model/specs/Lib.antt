@@ -1,0 +1,9 @@
+pub mod Plays
+pub mod Halts
+pub mod Machines
+pub mod DiskHalts
+pub mod DiskPlays
+pub mod Solved
+pub mod Queues
+pub mod SimWorkers
+pub mod WorkerCrews

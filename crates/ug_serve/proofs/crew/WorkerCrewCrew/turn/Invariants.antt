@@ -1,8 +1,0 @@
-use Rattle.std.proofs.Common.{◌≡◌}
-use Rattle.ug_serve.specs.WorkerCrews.{crew_seen}
-use Rattle.ug_serve.proofs.crew.WorkerCrewCrew.turn.Given as goal
-
-abbrev pub invariant-loop : goal.invariant-loop
-invariant-loop l = record {
-  same : crew_seen l.self ≡ crew_seen l.initial.self;
-}

@@ -1,5 +1,0 @@
-use Rattle.ug_world.proofs.Traces.{honest_lose_nothing}
-use Rattle.ug_world.proofs.law.honest_solvers_lose_nothing.Goals as goal
-
-pub returns : goal.returns
-returns c = honest_lose_nothing
