@@ -8,8 +8,8 @@
 mod crew;
 mod desk_seat;
 mod ending;
-mod listener;
 mod pace;
+mod snapshot_sink;
 mod solve;
 mod together;
 mod told;

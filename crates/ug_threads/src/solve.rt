@@ -11,7 +11,7 @@ ghost use Rattle.ug_restart.specs.Outcomes.{IsMissedByFaults, IsSavedOrCounted, 
 ghost use Rattle.ug_threads.specs.Outcomes.{HasEnded, IsSavedLast};
 
 use crate::ending::end_of;
-use crate::listener::{Saving, Silent};
+use crate::snapshot_sink::{Saving, Silent};
 use crate::together::solve;
 use std::sync::Wait;
 use std::thread::Threads;
@@ -141,8 +141,8 @@ fn saving<R: Threads + Wait + Sync, D: Disk, O: Observer>(
     ensures missed { IsMissedByFaults result (D.seen disk.old) (D.seen disk.new) }
 {
     let alloc = host.alloc;
-    let listener = Saving { alloc, saves, disk };
-    let concluded = conclude(host, opening, listener);
+    let sink = Saving { alloc, saves, disk };
+    let concluded = conclude(host, opening, sink);
     let (outcome, back) = parted(concluded);
     take_back(back);
     outcome
@@ -176,30 +176,30 @@ struct Concluded<'a, D> {
 fn conclude<'a, R: Threads + Wait + Sync, D: Disk, O: Observer>(
     host: &Host<'_, R, O>,
     opening: &Opening,
-    listener: Saving<'a, D>,
+    sink: Saving<'a, D>,
 ) -> Concluded<'a, D>
     requires opening { IsOpening opening.now }
-    requires saves { opening_of listener.saves ≡ opening.now }
-    requires kept { IsKept (saver_of listener.saves) (D.seen listener.disk.now).told }
-    ensures name { result.kept.disk.ghost_name ≡ listener.entry.disk.ghost_name }
+    requires saves { opening_of sink.saves ≡ opening.now }
+    requires kept { IsKept (saver_of sink.saves) (D.seen sink.disk.now).told }
+    ensures name { result.kept.disk.ghost_name ≡ sink.entry.disk.ghost_name }
     ensures ended { HasEnded (opening_book opening.now) result.outcome.end }
     ensures saved { IsSavedOrCounted result.outcome (D.seen result.kept.disk.now).told }
     ensures missed { result.outcome.missed ≡ missed_of result.kept.saves }
-    ensures last { IsSavedLast (time listener.entry.saves (D.seen listener.entry.disk.now))
+    ensures last { IsSavedLast (time sink.entry.saves (D.seen sink.entry.disk.now))
         result.outcome (time result.kept.saves (D.seen result.kept.disk.now)) }
     ensures goes_on { GoesOn (IsSoundBook (opening_book opening.now)) (Unit {0})
-        (time listener.entry.saves (D.seen listener.entry.disk.now))
+        (time sink.entry.saves (D.seen sink.entry.disk.now))
         (time result.kept.saves (D.seen result.kept.disk.now)) }
 {
     let alloc = host.alloc;
     let every = Some(opening.settings.every);
-    let solved = solve(host, opening, every, listener);
+    let solved = solve(host, opening, every, sink);
     let end = end_of(solved.book);
     let Saving {
         mut saves,
         disk,
         ..
-    } = solved.listener;
+    } = solved.sink;
     let last = save_end(alloc, disk, &mut saves, &end);
     let missed = saves.missed();
     let unsaved = saves.unsaved();

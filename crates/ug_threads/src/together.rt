@@ -8,8 +8,8 @@ ghost use Rattle.ug_threads.specs.Rooms.{AreAllAt, AreAllOf, IsRoom};
 
 use crate::crew::{Crew, Table};
 use crate::ending::of_opening;
-use crate::listener::{Listener, listen};
 use crate::pace::Pace;
+use crate::snapshot_sink::{SnapshotSink, listen};
 use crossbeam_channel::{Receiver, Sender, bounded};
 use std::alloc::{AllocError, Global};
 use std::sync::Wait;
@@ -28,28 +28,25 @@ const WAITING: usize = 2;
 #[derive(Drop)]
 pub struct Solved<T> {
     pub book: Option<Book>,
-    pub listener: T,
+    pub sink: T,
 }
 
 /// Solves by threads. There is no book if memory runs out for the desk, for its threads or to close
 /// it.
-pub fn solve<R: Threads + Wait + Sync, O: Observer, T: Listener + Drop>(
+pub fn solve<R: Threads + Wait + Sync, O: Observer, T: SnapshotSink + Drop>(
     host: &Host<'_, R, O>,
     opening: &Opening,
     every: Option<u64>,
-    listener: T,
+    sink: T,
 ) -> Solved<T>
     requires opening { IsOpening opening.now }
-    requires ready { T.ready listener }
+    requires ready { T.ready sink }
     ensures ended { IfSome result.book (IsEnding opening.now) }
-    ensures ready { T.ready result.listener }
-    ensures moves { T.moves listener result.listener }
+    ensures ready { T.ready result.sink }
+    ensures moves { T.moves sink result.sink }
 {
     let Ok(room) = make_room(host.alloc, opening) else {
-        return Solved {
-            book: None,
-            listener,
-        };
+        return Solved { book: None, sink };
     };
     let Room {
         desk,
@@ -65,16 +62,12 @@ pub fn solve<R: Threads + Wait + Sync, O: Observer, T: Listener + Drop>(
         pace: &pace,
         late: &late,
     };
-    let shift = Shift {
-        crew,
-        sender,
-        listener,
-    };
+    let shift = Shift { crew, sender, sink };
     let ran = run(host, table, &receiver, shift);
-    let Ran { passes, listener } = ran;
+    let Ran { passes, sink } = ran;
     Solved {
         book: closed(host.alloc, desk, passes, opening),
-        listener,
+        sink,
     }
 }
 
@@ -120,48 +113,48 @@ fn make_room(alloc: Global, opening: &Opening) -> Result<Room, AllocError>
 struct Shift<T> {
     crew: Crew,
     sender: Sender<Snapshot>,
-    listener: T,
+    sink: T,
 }
 
 // The passes that came back, and who listened.
 #[derive(Drop)]
 struct Ran<T> {
     passes: Vec<Pass>,
-    listener: T,
+    sink: T,
 }
 
 // Runs the workers to their end, while the caller listens.
-fn run<R: Threads + Wait + Sync, O: Observer, T: Listener + Drop>(
+fn run<R: Threads + Wait + Sync, O: Observer, T: SnapshotSink + Drop>(
     host: &Host<'_, R, O>,
     table: Table<'_>,
     receiver: &Receiver<Snapshot>,
     shift: Shift<T>,
 ) -> Ran<T>
     requires crew { IsCrewAt table shift.crew }
-    requires ready { T.ready shift.listener }
+    requires ready { T.ready shift.sink }
     ensures passes { AreAllAt table.entry (count_of shift.crew) result.passes.items }
-    ensures ready { T.ready result.listener }
-    ensures moves { T.moves shift.listener result.listener }
+    ensures ready { T.ready result.sink }
+    ensures moves { T.moves shift.sink result.sink }
 {
     thread::scope(
         thread::scope_env(),
         host.rt,
         move |scope| -> Ran<T>
-            requires { IsCrewAt table shift.crew × T.ready shift.listener }
+            requires { IsCrewAt table shift.crew × T.ready shift.sink }
             ensures passes { AreAllAt table.entry (count_of shift.crew) result.passes.items }
-            ensures ready { T.ready result.listener }
-            ensures moves { T.moves shift.listener result.listener }
+            ensures ready { T.ready result.sink }
+            ensures moves { T.moves shift.sink result.sink }
         {
             let Shift {
                 mut crew,
                 sender,
-                listener,
+                sink,
             } = shift;
             crew.start(scope, host, table, sender);
-            let listener = listen(host.rt, listener, receiver);
+            let sink = listen(host.rt, sink, receiver);
             Ran {
                 passes: crew.join(host.rt, table),
-                listener,
+                sink,
             }
         },
     )

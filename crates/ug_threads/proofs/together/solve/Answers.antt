@@ -3,7 +3,7 @@ use Rattle.ug_threads.proofs.Crews.{new_count, new_crew}
 use Rattle.ug_threads.proofs.together.solve.Goals as goal
 
 pub returns-in_default-clause-moves : goal.returns-in_default-clause-moves
-returns-in_default-clause-moves g c = g.T.Listener.stays c.args.listener
+returns-in_default-clause-moves g c = g.T.SnapshotSink.stays c.args.sink
 
 pub run-ran-requires-clause-crew : goal.run-ran-requires-clause-crew
 run-ran-requires-clause-crew g c κs within =

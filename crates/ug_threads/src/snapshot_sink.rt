@@ -13,7 +13,7 @@ use ug_restart::Saves;
 use ug_snapshot::Snapshot;
 
 /// Who takes the snapshots that workers send.
-pub trait Listener {
+pub trait SnapshotSink {
     /// It can take one.
     ghost ready: { Self → Type 0 };
 
@@ -31,29 +31,29 @@ pub trait Listener {
 }
 
 /// Receives until every sender is dropped.
-pub fn listen<R: Wait, T: Listener + Drop>(
+pub fn listen<R: Wait, T: SnapshotSink + Drop>(
     rt: &R,
-    mut listener: T,
+    mut sink: T,
     receiver: &Receiver<Snapshot>,
 ) -> T
-    requires { T.ready listener }
+    requires { T.ready sink }
     ensures ready { T.ready result }
-    ensures moves { T.moves listener result }
+    ensures moves { T.moves sink result }
 {
     for _ in rt.forever() {
         match receiver.recv(rt) {
-            Ok(snapshot) => listener.take(snapshot),
+            Ok(snapshot) => sink.take(snapshot),
             Err(_) => break,
         }
     }
-    listener
+    sink
 }
 
 /// Nobody listens.
 #[derive(Drop)]
 pub struct Silent;
 
-impl Listener for Silent {
+impl SnapshotSink for Silent {
     ghost ready = { λ x. Unit {0} };
 
     ghost moves = { λ x y. Unit {0} };
@@ -75,7 +75,7 @@ pub struct Saving<'a, D> {
     pub disk: &'a mut D,
 }
 
-impl<'a, D: Disk> Listener for Saving<'a, D> {
+impl<'a, D: Disk> SnapshotSink for Saving<'a, D> {
     ghost ready = { λ x. IsKept (saver_of x.saves) (D.seen x.disk.now).told };
 
     ghost moves = { λ x y. (y.disk.ghost_name ≡ x.disk.ghost_name)
