@@ -6,7 +6,7 @@ use lib.Seq.{take-add, drop-drop}
 use Rattle.std.specs.Io.KnownBytes.{Appends}
 use Rattle.std.proofs.KnownBytes.{Appends-trans}
 use Rattle.ug_real.specs.declared.send_queue.SendQueue.{SendQueue}
-use Rattle.ug_real.specs.Outboxes.{HasWritten, own_waiting, rest_of, waiting}
+use Rattle.ug_real.specs.SendQueues.{HasWritten, own_waiting, rest_of, waiting}
 
 -- bytes that were written behind the first `s` are with these the first `s + n`
 pub written_more : (a b c : Option (List ℕ)) (s n : ℕ) (bs : List ℕ) → Appends a b (take s bs)

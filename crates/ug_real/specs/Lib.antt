@@ -1,2 +1,2 @@
 pub mod Folders
-pub mod Outboxes
+pub mod SendQueues

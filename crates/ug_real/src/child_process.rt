@@ -47,9 +47,9 @@ fn state_in<R: Files<File = File>>(rt: &R, path: &str) -> Option<u8> {
     };
     let count = again::read(&mut file, &mut buffer).unwrap_or(0);
     drop(file);
-    let connection = buffer.get(..count).unwrap_or(&[]);
-    let at = connection.iter().rposition(|byte| *byte == b')')?;
-    connection.get(at.saturating_add(2)).copied()
+    let stat = buffer.get(..count).unwrap_or(&[]);
+    let at = stat.iter().rposition(|byte| *byte == b')')?;
+    stat.get(at.saturating_add(2)).copied()
 }
 
 impl ChildProcess {

@@ -60,7 +60,7 @@ pub fn write_out<W: Write>(to: &mut W, bytes: &[u8]) -> io::Result<usize>
 }
 
 impl SendQueue {
-    ghost use Rattle.ug_real.specs.Outboxes.{HasWritten, IsUnsent, own_waiting, rest_of, waiting};
+    ghost use Rattle.ug_real.specs.SendQueues.{HasWritten, IsUnsent, own_waiting, rest_of, waiting};
 
     /// Returns an empty outbox.
     pub fn new(alloc: Global) -> SendQueue

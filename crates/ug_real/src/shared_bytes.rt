@@ -1,5 +1,5 @@
 ghost use Rattle.std.specs.Prelude.{◌≡◌, ◌++◌, false, IfErr, IfOk, OnOk};
-ghost use Rattle.ug_real.specs.Outboxes.{IsUnsent, waiting};
+ghost use Rattle.ug_real.specs.SendQueues.{IsUnsent, waiting};
 
 use crate::send_queue::{SendQueue, Unsent};
 use std::alloc::{AllocError, Global};

@@ -36,7 +36,7 @@ pub struct SocketLink<'a, R> {
 // The path of a socket, and the connection once there is one.
 #[derive(Drop)]
 struct Wire<'a, R> {
-    connection: Option<Connection>,
+    connection: Option<LinkConnection>,
     path: &'a str,
     alloc: Global,
     rt: &'a R,
@@ -45,7 +45,7 @@ struct Wire<'a, R> {
 // A connection: do its calls wait, did the last read return bytes, and when was it last read
 // without waiting?
 #[derive(Drop)]
-struct Connection {
+struct LinkConnection {
     stream: BufWriter<UnixStream, Global>,
     waits: bool,
     has_read: bool,
@@ -77,7 +77,7 @@ impl<'a, R: Net + Clock> SocketLink<'a, R> {
     }
 }
 
-impl Connection {
+impl LinkConnection {
     // Makes its calls wait from now on, or not.
     fn set(&mut self, waits: bool) -> io::Result<()> {
         if waits != self.waits {
@@ -219,10 +219,10 @@ impl Connection {
 }
 
 // Connects to the socket of a path.
-fn connected<R: Net>(rt: &R, alloc: Global, path: &str) -> io::Result<Connection> {
+fn connected<R: Net>(rt: &R, alloc: Global, path: &str) -> io::Result<LinkConnection> {
     match UnixStream::connect(rt, path) {
         Ok(stream) => match BufWriter::with_capacity(alloc, HELD, stream) {
-            Ok(stream) => Ok(Connection {
+            Ok(stream) => Ok(LinkConnection {
                 stream,
                 waits: true,
                 has_read: false,
@@ -247,7 +247,7 @@ fn at_least_one(wrote: io::Result<usize>, bytes: &[u8]) -> io::Result<usize>
 
 impl<R: Net + Clock> Wire<'_, R> {
     // Returns the connection, made at the first call.
-    fn connection(&mut self) -> io::Result<&mut Connection> {
+    fn connection(&mut self) -> io::Result<&mut LinkConnection> {
         match &mut self.connection {
             Some(connection) => Ok(connection),
             none => match connected(self.rt, self.alloc, self.path) {

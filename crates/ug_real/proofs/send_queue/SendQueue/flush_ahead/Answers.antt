@@ -1,6 +1,6 @@
 use Rattle.std.proofs.Common.{take, subst}
 use Rattle.std.specs.Io.KnownBytes.{Appends}
-use Rattle.ug_real.specs.Outboxes.{own_waiting, rest_of}
+use Rattle.ug_real.specs.SendQueues.{own_waiting, rest_of}
 use Rattle.ug_real.proofs.Writing.{ahead_whole}
 use Rattle.ug_real.proofs.send_queue.SendQueue.flush_ahead.Goals as goal
 

@@ -1,6 +1,6 @@
 use Rattle.std.proofs.Common.{ap, take, sym, subst, ◌∙◌, ◌++◌}
 use Rattle.std.specs.Io.KnownBytes.{Appends}
-use Rattle.ug_real.specs.Outboxes.{own_waiting}
+use Rattle.ug_real.specs.SendQueues.{own_waiting}
 use Rattle.ug_real.proofs.Writing.{left_whole, waiting_own}
 use Rattle.ug_real.proofs.send_queue.SendQueue.flush_own.Goals as goal
 
