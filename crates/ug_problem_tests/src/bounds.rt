@@ -4,9 +4,9 @@ ghost use Rattle.std.specs.Prelude.{IsTrue};
 ghost use Rattle.ug_problem.specs.Better.{IsSmallCutoff};
 
 mod cases;
-mod guesses;
 mod implications;
 mod roundings;
+mod subgradient;
 mod texts;
 
 use std::alloc::Global;

@@ -117,14 +117,14 @@ fn task(alloc: Global, problem: Option<Problem>, params: Params, gap: i128) -> O
 }
 
 // How both searches of a number go: the gap, and how often a box is handed away.
-const COURSES: &[(i128, u32)] = &[(0, 0), (2, 4)];
+const TRACES: &[(i128, u32)] = &[(0, 0), (2, 4)];
 
 #[test]
 fn tasks_go_alike_in_64_bits_and_in_128(rt: HostRuntime) {
     let alloc = rt.alloc();
     let mut longest = 0;
     for number in 1..121 {
-        for (gap, hands) in COURSES {
+        for (gap, hands) in TRACES {
             let params = Params::new((number % 8) as u8);
             let short = task(alloc, problem(alloc, number), params, *gap);
             let wide = task(alloc, wide_problem(alloc, number), params, *gap);

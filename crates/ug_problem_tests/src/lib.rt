@@ -24,15 +24,15 @@ mod nodes;
 #[cfg(test)]
 mod records;
 #[cfg(test)]
-mod renewals;
+mod releases;
 #[cfg(test)]
 mod rounds;
 #[cfg(test)]
 mod served;
 #[cfg(test)]
-mod sharpened;
-#[cfg(test)]
 mod small;
+#[cfg(test)]
+mod subgradients;
 #[cfg(test)]
 mod tasks;
 

@@ -104,7 +104,7 @@ ENDATA
 ";
 
 // 3 x + 2 y is 7: the row tightens again at its second look.
-const SECOND_LOOK: &[u8] = b"ROWS
+const SECOND_PROPAGATION: &[u8] = b"ROWS
  N Z
  E r
 COLUMNS
@@ -120,7 +120,7 @@ ENDATA
 ";
 
 // The same with coefficients whose sums are kept in 128 bits.
-const SECOND_WIDE_LOOK: &[u8] = b"ROWS
+const SECOND_WIDE_PROPAGATION: &[u8] = b"ROWS
  N Z
  E r
 COLUMNS
@@ -178,8 +178,8 @@ const CASES: &[(&[u8], Option<i128>, Outcome)] = &[
     (TOO_LITTLE, None, Err(NO_LOW)),
     (CHASE, None, Err(NO_LOW)),
     (ODD_SUM, None, Ok(&[(0, 3), (0, 3), (0, 3)])),
-    (SECOND_LOOK, None, Ok(&[(1, 1), (2, 2)])),
-    (SECOND_WIDE_LOOK, None, Ok(&[(1, 1), (2, 2)])),
+    (SECOND_PROPAGATION, None, Ok(&[(1, 1), (2, 2)])),
+    (SECOND_WIDE_PROPAGATION, None, Ok(&[(1, 1), (2, 2)])),
     (FAR_SIDES, Some(3), Ok(&[(0, 2)])),
     (FAR_SIDES, None, Ok(&[(0, 3)])),
     (TOO_FAR, None, Err(NO_LOW)),

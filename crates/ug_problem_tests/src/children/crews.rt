@@ -4,8 +4,8 @@ ghost use Rattle.std.specs.Prelude.{◌≡◌, ◌<◌, length};
 
 use crate::children::child::make_echo;
 use crate::children::listening::{
-    Tally, hears, is_clean, listen, put_over_and_over, start, start_again, start_three, tell,
-    tell_three,
+    ReceivedCounts, hears, is_clean, listen, put_over_and_over, start, start_again, start_three,
+    tell, tell_three,
 };
 use crate::children::notes::{Notes, are_lines};
 use crate::expect::holds;
@@ -81,7 +81,7 @@ fn talks_on<C: Crew>(crew: &mut C) -> bool
     requires { 2 < length (C.seen crew.old).lives }
     ensures { length (C.seen crew.new).lives ≡ length (C.seen crew.old).lives }
 {
-    let wanted = Tally {
+    let wanted = ReceivedCounts {
         bytes: [1, 0, 0],
         gone: 0,
     };
@@ -91,11 +91,11 @@ fn talks_on<C: Crew>(crew: &mut C) -> bool
 // Whether two others come, and are received byte by byte, so that the one that talks is always
 // ahead.
 fn hears_beside_it<C: Crew>(crew: &mut C) -> bool {
-    let wanted = Tally {
+    let wanted = ReceivedCounts {
         bytes: [0, 3, 5],
         gone: 0,
     };
-    let Tally { bytes, gone } = listen(crew, wanted, &mut [0u8]);
+    let ReceivedCounts { bytes, gone } = listen(crew, wanted, &mut [0u8]);
     bytes[1] == 3 && bytes[2] == 5 && gone == 0
 }
 

@@ -9,7 +9,7 @@ use ug_io::{Came, Crew};
 /// How many bytes were received from each of three ranks, as long as they were `a` to `g` over and
 /// over, and how many ranks are lost.
 #[derive(Clone, Copy, PartialEq)]
-pub struct Tally {
+pub struct ReceivedCounts {
     pub bytes: [usize; 3],
     pub gone: usize,
 }
@@ -29,9 +29,9 @@ fn next_of(count: usize) -> u8 {
     b'a' + (count % 7) as u8
 }
 
-impl Tally {
+impl ReceivedCounts {
     // Whether it has what is needed, or more.
-    fn has(&self, wanted: &Tally) -> bool {
+    fn has(&self, wanted: &ReceivedCounts) -> bool {
         let [zero, one, two] = self.bytes;
         let [least_zero, least_one, least_two] = wanted.bytes;
         least_zero <= zero && least_one <= one && least_two <= two && wanted.gone <= self.gone
@@ -68,20 +68,20 @@ impl Tally {
 
 /// Listens by way of the buffer until this many bytes came from each rank, and this many ranks are
 /// gone, at least.
-pub fn listen<C: Crew>(crew: &mut C, wanted: Tally, buffer: &mut [u8]) -> Tally
+pub fn listen<C: Crew>(crew: &mut C, wanted: ReceivedCounts, buffer: &mut [u8]) -> ReceivedCounts
     requires { 0 < length buffer.old }
     ensures { length (C.seen crew.new).lives ≡ length (C.seen crew.old).lives }
 {
-    let mut tally = Tally {
+    let mut counts = ReceivedCounts {
         bytes: [0; 3],
         gone: 0,
     };
     for _ in 0..u64::MAX {
-        if tally.has(&wanted) || !tally.hear(crew, buffer) {
+        if counts.has(&wanted) || !counts.hear(crew, buffer) {
             break;
         }
     }
-    tally
+    counts
 }
 
 /// Whether just this many bytes come from each rank, and this many ranks are lost, once there are
@@ -89,7 +89,7 @@ pub fn listen<C: Crew>(crew: &mut C, wanted: Tally, buffer: &mut [u8]) -> Tally
 pub fn hears<C: Crew>(crew: &mut C, bytes: [usize; 3], gone: usize) -> bool
     ensures { length (C.seen crew.new).lives ≡ length (C.seen crew.old).lives }
 {
-    let wanted = Tally { bytes, gone };
+    let wanted = ReceivedCounts { bytes, gone };
     listen(crew, wanted, &mut [0u8; 1000]) == wanted
 }
 

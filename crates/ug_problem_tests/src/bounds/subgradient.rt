@@ -10,7 +10,12 @@ use ug_problem::Problem;
 use ug_surrogate::subgradient_multipliers;
 
 // Problems, and a bound that guessed multipliers of them give at least.
-const GUESSES: &[(&[u8], i128)] = &[(SQUARE, 5), (COVER, 2), (KNAPSACK, -14), (RANGED, -4)];
+const SUBGRADIENT_BOUNDS: &[(&[u8], i128)] = &[
+    (SQUARE, 5),
+    (COVER, 2),
+    (KNAPSACK, -14),
+    (RANGED, -4),
+];
 
 fn reaches(alloc: Global, problem: &Problem, least: i128) -> bool {
     let Ok(m) = subgradient_multipliers(alloc, problem, problem.root(), 200) else {
@@ -24,7 +29,7 @@ fn reaches(alloc: Global, problem: &Problem, least: i128) -> bool {
     }
 }
 
-fn guess_reaches(alloc: Global, text: &[u8], least: i128) -> bool {
+fn subgradient_reaches(alloc: Global, text: &[u8], least: i128) -> bool {
     let Ok(problem) = read(alloc, text, None) else {
         return false;
     };
@@ -34,8 +39,8 @@ fn guess_reaches(alloc: Global, text: &[u8], least: i128) -> bool {
 }
 
 #[test]
-fn guesses_bound_well(rt: HostRuntime) {
-    for (text, least) in GUESSES {
-        holds_at(&rt, guess_reaches(rt.alloc(), text, *least), least);
+fn subgradient_bounds_well(rt: HostRuntime) {
+    for (text, least) in SUBGRADIENT_BOUNDS {
+        holds_at(&rt, subgradient_reaches(rt.alloc(), text, *least), least);
     }
 }

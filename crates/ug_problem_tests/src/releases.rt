@@ -63,7 +63,7 @@ impl Notebook {
 }
 
 impl Seat for Notebook {
-    ghost at = { λ seat tally some. Unit {0} };
+    ghost at = { λ seat round_count some. Unit {0} };
 
     ghost over = { λ seat. Unit {0} };
 
@@ -271,7 +271,7 @@ fn is_so<R: Wait>(rt: &R, alloc: Global, case: &Case) -> bool {
 }
 
 #[test]
-fn renews_where_it_is_due(rt: HostRuntime) {
+fn releases_when_due(rt: HostRuntime) {
     for case in CASES {
         holds_at(&rt, is_so(&rt, rt.alloc(), case), &case.told);
     }

@@ -82,13 +82,13 @@ fn both_steps(
     requires { params < 8 }
 {
     let alone = searched(alloc, problem, params);
-    let sharpened = searched(alloc, problem, params + 8);
-    let (Some(alone), Some(sharpened)) = (alone, sharpened) else {
+    let strengthened = searched(alloc, problem, params + 8);
+    let (Some(alone), Some(strengthened)) = (alone, strengthened) else {
         holds_at(rt, false, &(case, params));
         return (0, 0);
     };
-    same_at(rt, &sharpened.cutoff, &alone.cutoff, &(case, params));
-    (alone.steps, sharpened.steps)
+    same_at(rt, &strengthened.cutoff, &alone.cutoff, &(case, params));
+    (alone.steps, strengthened.steps)
 }
 
 // The same of the small problem of a number, with all params.
@@ -132,25 +132,25 @@ fn made_steps(rt: &impl Abort, alloc: Global, seed: u32) -> (u32, u32)
 #[test]
 fn made_instances_end_in_a_fortieth_of_the_steps(rt: HostRuntime) {
     let mut alone = 0u32;
-    let mut sharpened = 0u32;
+    let mut strengthened = 0u32;
     for seed in 1..6 {
         let (more, fewer) = made_steps(&rt, rt.alloc(), seed);
         alone = alone.saturating_add(more);
-        sharpened = sharpened.saturating_add(fewer);
+        strengthened = strengthened.saturating_add(fewer);
     }
     holds_at(&rt, 50_000 < alone, &alone);
     // Without what a list says of branches they take half as many again.
-    holds_at(&rt, sharpened < alone / 40, &(alone, sharpened));
+    holds_at(&rt, strengthened < alone / 40, &(alone, strengthened));
 }
 
 #[test]
 fn sums_of_even_factors_that_are_to_be_odd_end_at_once(rt: HostRuntime) {
     match read(rt.alloc(), ODD, Some(1)) {
         Ok(problem) => {
-            let (alone, sharpened) = both_steps(&rt, rt.alloc(), &problem, 0, 0);
+            let (alone, strengthened) = both_steps(&rt, rt.alloc(), &problem, 0, 0);
             drop(problem);
             holds_at(&rt, 500 < alone, &alone);
-            holds_at(&rt, sharpened < 32, &sharpened);
+            holds_at(&rt, strengthened < 32, &strengthened);
         }
         Err(_) => holds_at(&rt, false, &0),
     }

@@ -1,5 +1,0 @@
-use Rattle.ug_worker.proofs.Silent.{replied_any}
-use Rattle.ug_problem_tests.proofs.renewals.NotebookSeat.look.Goals as goal
-
-pub returns-clause-replied : goal.returns-clause-replied
-returns-clause-replied c tally e at made = replied_any _ (λ some. tt) _ e.task _
