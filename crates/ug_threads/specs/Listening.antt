@@ -1,4 +1,4 @@
--- Listening continues: the laws of what a listener becomes.
+-- What a sink of snapshots becomes as it takes them.
 use Rattle.std.proofs.Common.{◌≡◌, ◌∙◌, refl, subst, sym}
 use Rattle.ug_book.specs.Openings.{IsCoveredOpening}
 use Rattle.ug_restart.specs.Saves.{opening_of}

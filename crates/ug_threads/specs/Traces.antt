@@ -37,7 +37,7 @@ pub record IsOfDesk (p : PassState) (asked : Asked) (e : Engaged) : Type 0 where
   pub count : e.asked ≡ asked.count
   pub racing : e.racing ≡ asked.racing
 
--- the stage of a worker with this tally, and its task, if it has one
+-- the stage of a worker with this round count, and its task, if it has one
 abbrev pub stage_of : RoundCount → Option Engaged → Stage
 stage_of round_count None = Free round_count
 stage_of round_count (Some e) = Busy round_count e

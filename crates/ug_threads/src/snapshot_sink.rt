@@ -12,7 +12,7 @@ use ug_disk::Disk;
 use ug_restart::Saves;
 use ug_snapshot::Snapshot;
 
-/// Who takes the snapshots that workers send.
+/// Takes the snapshots that workers send.
 pub trait SnapshotSink {
     /// It can take one.
     ghost ready: { Self → Type 0 };
@@ -49,7 +49,7 @@ pub fn listen<R: Wait, T: SnapshotSink + Drop>(
     sink
 }
 
-/// Nobody listens.
+/// Drops each snapshot.
 #[derive(Drop)]
 pub struct Silent;
 

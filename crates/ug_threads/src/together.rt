@@ -24,7 +24,7 @@ use ug_snapshot::Snapshot;
 /// Number of snapshots that may wait to be saved. While they do, no other is made.
 const WAITING: usize = 2;
 
-/// Result of a solve: its final book, if memory sufficed, and who took the snapshots.
+/// Result of a solve: its final book, if memory sufficed, and the sink that took the snapshots.
 #[derive(Drop)]
 pub struct Solved<T> {
     pub book: Option<Book>,
@@ -108,7 +108,7 @@ fn make_room(alloc: Global, opening: &Opening) -> Result<Room, AllocError>
     }
 }
 
-// Who is to work, and who listens.
+// The crew that is to work, and the sink of its snapshots.
 #[derive(Drop)]
 struct Shift<T> {
     crew: Crew,
@@ -116,14 +116,14 @@ struct Shift<T> {
     sink: T,
 }
 
-// The passes that came back, and who listened.
+// The passes that came back, and the sink.
 #[derive(Drop)]
 struct Ran<T> {
     passes: Vec<Pass>,
     sink: T,
 }
 
-// Runs the workers to their end, while the caller listens.
+// Runs the workers to their end, while the caller receives snapshots.
 fn run<R: Threads + Wait + Sync, O: Observer, T: SnapshotSink + Drop>(
     host: &Host<'_, R, O>,
     table: Table<'_>,

@@ -42,7 +42,7 @@ IsRightFor p settings b = Right p settings.gap (one_kept b.best)
 -- if there is no crew. Whatever it began with, the incumbent then is feasible; if the beginning can
 -- be trusted, and the solvers, an answer is right. By threads, and by a crew that stayed calm and
 -- was worked, the run is not stranded; by another crew it is exactly if that is due, and the clause
--- on its saves holds of those that are among its deeds.
+-- on its saves holds of those that are among its actions.
 pub record IsRun (Began : BookState → Type 0) (Trusted : (b : BookState) → Began b → Type 0)
     (Saves : BookState → ℕ → Type 0) (by : Crewed) (p : Instance) (settings : Settings)
     (outcome : Outcome) : Type 0 where

@@ -52,7 +52,7 @@ strands_just (Some crew) end b = IsStranded end ↔ ends.IsStranded b
 abbrev pub StrandsJustWhere : Crewed → End → BookState → Type 0
 StrandsJustWhere by end b = strands_just by.was end b
 
--- the condition on the number of saves holds of those that a crew's deeds have; there is none on
+-- the condition on the number of saves holds of those among a crew's actions; there is none on
 -- threads
 abbrev pub counts_saves : (was now : Option CrewSeen) (given : BookState) (end : End)
     → has_solved was now given end → (ℕ → Type 0) → Type 0
@@ -84,7 +84,7 @@ pub record IsCalmlyWorked (before after : ℕ) (said : List Exchange) : Type 0 w
   pub calm : IsCalm before after
   pub worked : AreAlwaysWorked said
 
--- there is no condition on threads; a crew stayed calm, and was worked in its deeds
+-- there is no condition on threads; a crew stayed calm, and was worked in its actions
 abbrev pub stays_calm : (was now : Option CrewSeen) (given : BookState) (end : End)
     → has_solved was now given end → Type 0
 stays_calm None None given end solved = Unit {0}
