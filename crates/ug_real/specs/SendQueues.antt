@@ -24,7 +24,7 @@ pub record HasWritten (old new : Option (List ℕ)) (bytes left : List ℕ) : Ty
   pub whole : bytes ≡ gone ++ left
   pub written : Appends old new gone
 
--- out of memory the same bytes wait, and after a failed write the outbox is closed
+-- out of memory the same bytes wait, and after a failed write the send queue is closed
 abbrev pub IsUnsent : SendQueue → SendQueue → Unsent → Type 0
 IsUnsent old new Memory = waiting new ≡ waiting old
 IsUnsent old new (Cut error) = new.is_closed ≡ true

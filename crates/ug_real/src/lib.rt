@@ -9,10 +9,10 @@
 //! implementations show no bytes: no contract can say what a real file or socket returns, or what a
 //! terminal accepts.
 //!
-//! A `ProcessCrew` has a `ChildCrew`: a `Children` of `Child`s behind one poll. A peer is one
-//! child: its connection, an `SendQueue` that holds the bytes not written yet, and a
-//! `ChildProcess`, the child process. Dropping a child process ends its process, and dropping the
-//! `SocketFile` of a child that has not connected removes the file, so none is left.
+//! A `ProcessCrew` has a `ChildCrew`: a `Children` of `Child`s behind one poll. A `Child` has a
+//! connection, a `SendQueue` that holds the bytes not written yet, and a `ChildProcess`. Dropping a
+//! `ChildProcess` ends the process, and dropping the `SocketFile` of a child that has not connected
+//! removes the file, so none is left.
 #![tactic(auto)]
 
 mod again;

@@ -8,14 +8,14 @@ use std::alloc::Global;
 use std::io::{ErrorKind, Write};
 use std::{io, mem};
 
-/// Capacity, in bytes, that an empty outbox keeps.
+/// Capacity, in bytes, that an empty send queue keeps.
 const KEPT: usize = 1 << 16;
 
 /// Bytes that are to go to a connection, and did not go yet.
 #[derive(Drop)]
 pub struct SendQueue {
     alloc: Global,
-    // Bytes that go before the others, in memory that other outboxes share.
+    // Bytes that go before the others, in memory that other send queues share.
     ahead: Option<SharedBytes>,
     // The number of those that are written.
     gone: usize,
@@ -62,7 +62,7 @@ pub fn write_out<W: Write>(to: &mut W, bytes: &[u8]) -> io::Result<usize>
 impl SendQueue {
     ghost use Rattle.ug_real.specs.SendQueues.{HasWritten, IsUnsent, own_waiting, rest_of, waiting};
 
-    /// Returns an empty outbox.
+    /// Returns an empty send queue.
     pub fn new(alloc: Global) -> SendQueue
         ensures { waiting result ≡ [] }
     {
@@ -127,8 +127,8 @@ impl SendQueue {
         self.is_closed = true;
     }
 
-    /// Queues the bytes behind the others. A closed outbox drops them. If memory runs out nothing
-    /// is queued.
+    /// Queues the bytes behind the others. A closed send queue drops them. If memory runs out
+    /// nothing is queued.
     pub fn push(&mut self, bytes: &[u8]) -> Result<(), Unsent>
         ensures ok { OnOk result (self.old.is_closed ≡ false
             → waiting self.new ≡ waiting self.old ++ bytes.now) }
@@ -145,8 +145,8 @@ impl SendQueue {
         }
     }
 
-    /// Queues shared bytes behind the others. Copies them if bytes wait already. A closed outbox
-    /// drops them. If memory runs out nothing is queued.
+    /// Queues shared bytes behind the others. Copies them if bytes wait already. A closed send
+    /// queue drops them. If memory runs out nothing is queued.
     pub fn push_shared(&mut self, bytes: SharedBytes) -> Result<(), Unsent>
         ensures ok { OnOk result (self.old.is_closed ≡ false
             → waiting self.new ≡ waiting self.old ++ bytes) }
@@ -175,7 +175,7 @@ impl SendQueue {
         self.ahead.is_some() || !self.rest().is_empty()
     }
 
-    /// Writes as many bytes as can be written now. Closes the outbox if a write fails.
+    /// Writes as many bytes as can be written now. Closes the send queue if a write fails.
     pub fn flush<W: Write>(&mut self, to: &mut W) -> io::Result<()>
         ensures ok { OnOk result (HasWritten (W.contents to.old) (W.contents to.new)
             (waiting self.old) (waiting self.new)) }
@@ -262,7 +262,7 @@ impl SendQueue {
     }
 
     /// Writes as many of the bytes as can be written now, behind the queued ones, and queues the
-    /// rest. A closed outbox drops them. Closes the outbox if a write fails.
+    /// rest. A closed send queue drops them. Closes the send queue if a write fails.
     pub fn send<W: Write>(&mut self, to: &mut W, bytes: &[u8]) -> Result<(), Unsent>
         ensures ok { OnOk result (self.old.is_closed ≡ false
             → HasWritten (W.contents to.old) (W.contents to.new)

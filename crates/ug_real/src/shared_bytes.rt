@@ -6,10 +6,10 @@ use std::alloc::{AllocError, Global};
 use std::marker::Model;
 use std::sync::Arc;
 
-/// Shortest length, in bytes, of a frame that outboxes share.
+/// Shortest length, in bytes, of a frame that send queues share.
 const SHARED: usize = 1 << 16;
 
-/// Bytes that several outboxes hold without a copy.
+/// Bytes that several send queues hold without a copy.
 #[derive(Drop)]
 pub struct SharedBytes {
     place: Arc<Vec<u8>>,
@@ -64,7 +64,7 @@ impl SharedFrame {
         SharedFrame { alloc, last: None }
     }
 
-    /// Frees the frame, as far as no outbox holds it.
+    /// Frees the frame, as far as no send queue holds it.
     pub fn clear(&mut self) {
         drop(self.last.take());
     }
@@ -84,7 +84,7 @@ impl SharedFrame {
         Ok(made)
     }
 
-    /// Queues the bytes in an outbox, which shares them if they are a long frame.
+    /// Adds the bytes to a send queue, which shares them if they are a long frame.
     pub fn queue(&mut self, send_queue: &mut SendQueue, bytes: &[u8]) -> Result<(), Unsent>
         ensures ok { OnOk result (send_queue.old.is_closed ≡ false
             → waiting send_queue.new ≡ waiting send_queue.old ++ bytes.now) }
