@@ -1,8 +1,8 @@
 //! Tests of problems and of what is worked out of one problem alone: bounds by multipliers, changes
 //! and boxes, records and frames byte for byte, links and crews, in memory and of real children at
-//! sockets, workers at a link, rounds, the steps of a task, searches with and without rows that
-//! follow. They stand apart from the crates that they test, from ug_problem to ug_worker,
-//! ug_frames, ug_real and ug_gen. Nothing here is proved but that the tests are safe and end.
+//! sockets, workers at a link, rounds, the steps of a task, searches with and without surrogate
+//! rows. They stand apart from the crates that they test, from ug_problem to ug_worker, ug_frames,
+//! ug_real and ug_gen. Nothing here is proved but that the tests are safe and end.
 #![tactic(auto)]
 
 #[cfg(test)]

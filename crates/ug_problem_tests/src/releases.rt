@@ -1,9 +1,9 @@
-//! A worker that renews its task, at a seat in memory that notes what it is sent and asks for
+//! A worker that releases its task, at a seat in memory that notes what it is sent and asks for
 //! nothing; and one whose seat knows of a cutoff, or has a task dropped behind its point. By hand,
 //! of the stairs (served/stairs.rt): the first round finds a point and leaves three boxes, the
-//! second finds one and leaves five. The third finds the point with a = 9 by 13 halvings of b and
-//! 15 of c, drops the 30 boxes left of it, branches a from 6..8 to 8 and then b four times: 64
-//! steps, and seven boxes are left. No value is below -65534.
+//! second finds one and leaves five. The third branches 13 times on b and 15 times on c, finds the
+//! point with a = 9, drops the 30 boxes left of it, branches a from 6..8 into 8 and then b four
+//! times: 64 steps, and seven boxes are left. No value is below -65534.
 
 ghost use Rattle.std.specs.Prelude.{◌≡◌, None};
 
@@ -177,12 +177,12 @@ fn walks_by_hand(walk: &mut Walk) -> bool {
     matches!(walk.step(), Ok(false))
 }
 
-// The task of all of the stairs, upper branches first.
+// The task of all of the stairs, upper halves first.
 fn task(alloc: Global) -> Option<Task> {
     task_of(alloc, read(alloc, STAIRS, None).ok()?, 3, Params::new(4), 0)
 }
 
-// A task that is renewed after this many rounds at the least, and whatever part of all they are;
+// A task that is released after this many rounds at the least, and whatever part of all they are;
 // after how many the race is won; for which hand there is no memory; which cutoff is known without
 // a report, and whether a task is dropped behind its point; what is reported, and whether the boxes
 // handed are those by hand.

@@ -103,7 +103,7 @@ BOUNDS
 ENDATA
 ";
 
-// 3 x + 2 y is 7: the row tightens again at its second look.
+// 3 x + 2 y is 7: the row tightens again at its second propagation.
 const SECOND_PROPAGATION: &[u8] = b"ROWS
  N Z
  E r
@@ -135,7 +135,7 @@ BOUNDS
 ENDATA
 ";
 
-// A side that no room of 64 bits is taken from, and one that is within them.
+// A side that leaves no slack of 64 bits, and one that is within them.
 const FAR_SIDES: &[u8] = b"ROWS
  N Z
  L r

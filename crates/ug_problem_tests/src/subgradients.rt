@@ -1,5 +1,5 @@
-//! Searches that take rows which follow, beside those over the problem's rows alone: they end at
-//! one value, and where such rows help, early.
+//! Searches with surrogate rows, beside those over the problem's rows alone: they end at one value,
+//! and early if such rows help.
 
 ghost use Rattle.std.specs.Prelude.{◌≤◌, ◌<◌};
 
@@ -139,7 +139,7 @@ fn made_instances_end_in_a_fortieth_of_the_steps(rt: HostRuntime) {
         strengthened = strengthened.saturating_add(fewer);
     }
     holds_at(&rt, 50_000 < alone, &alone);
-    // Without what a list says of branches they take half as many again.
+    // Without the scores of columns under multipliers they take half as many again.
     holds_at(&rt, strengthened < alone / 40, &(alone, strengthened));
 }
 

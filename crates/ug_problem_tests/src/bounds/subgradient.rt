@@ -1,4 +1,4 @@
-//! What guessed multipliers reach.
+//! Bounds by the multipliers of subgradient runs.
 
 use crate::bounds::bound_of;
 use crate::bounds::texts::{COVER, KNAPSACK, RANGED};
@@ -9,7 +9,7 @@ use ug_mps::read;
 use ug_problem::Problem;
 use ug_surrogate::subgradient_multipliers;
 
-// Problems, and a bound that guessed multipliers of them give at least.
+// Problems, and a bound that the multipliers of a subgradient run give at least.
 const SUBGRADIENT_BOUNDS: &[(&[u8], i128)] = &[
     (SQUARE, 5),
     (COVER, 2),

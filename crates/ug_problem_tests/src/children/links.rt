@@ -22,12 +22,12 @@ fn reads(link: &mut impl Link, bytes: &[u8], waits: bool) -> bool {
     }
 }
 
-// Until a link that does not wait looks again.
+// Sleeps until a link reads again that does not wait.
 fn pause(rt: &impl Clock) {
     sleep(rt, Duration::from_millis(1));
 }
 
-// Whether the link gives this once it looks again, where it does not wait.
+// Whether the next read of the link that does not wait gives this.
 fn gives(rt: &impl Clock, link: &mut impl Link, wanted: Got) -> bool {
     pause(rt);
     link.read(&mut [0u8; 4], false) == Ok(wanted)
@@ -52,14 +52,14 @@ fn other_end(rt: &impl Abort, listener: &UnixListener) -> UnixStream {
     other
 }
 
-// Whether the other end is sent something, and a link that looks finds it there.
+// Whether the other end writes something. The next read of the link finds it there.
 fn tells(rt: &impl Clock, other: &mut impl Write, bytes: &[u8]) -> bool {
     let so = other.write_all(bytes).is_ok();
     pause(rt);
     so
 }
 
-// Whether what was written goes in one piece, once the link looks.
+// Whether what was written is sent in one piece by the next read.
 fn writes_at_a_look(rt: &impl Clock, link: &mut impl Link, other: &mut impl Read) -> bool {
     let mut buffer = [0u8; 4];
     gives(rt, link, Got::Nothing) && other.read(&mut buffer).unwrap_or(0) == 4 && &buffer == b"hell"

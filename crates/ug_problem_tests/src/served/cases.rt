@@ -18,7 +18,7 @@ pub struct Case {
     pub end: Served,
 }
 
-/// Nothing comes for now: what follows is seen at the next look.
+/// Nothing comes for now: what follows is received by the next read.
 pub const GAP: &[Ordered] = &[];
 
 /// Adds a piece. Whether it is a whole one, and there was memory for it.

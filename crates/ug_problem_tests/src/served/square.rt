@@ -1,5 +1,5 @@
 //! Two columns whose sum is at least 5 and minimised, each search within one round of steps.
-//! By hand: the lower half of the first column that is open is examined first. So five halvings
+//! By hand: the lower half of the first column that is open is examined first. So five branchings
 //! lead to (0, 5), which is found, and the five boxes left have no smaller sum. The first order has
 //! 175 bytes, and one to work without a cutoff 28 and 12 for each change.
 
@@ -219,8 +219,8 @@ const BEGUN: &[Case] = &[
         ],
         end: Served::Ended,
     },
-    // The first column is branched on to 4, where the second one is 1 at least and is branched on
-    // to it. The cutoff of the first task does not apply to the second one.
+    // The first column is branched into 4, where the second one is 1 at least and is branched
+    // into 1. The cutoff of the first task does not apply to the second one.
     Case {
         what: "two tasks",
         gap: 0,
