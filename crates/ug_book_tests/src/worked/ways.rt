@@ -4,8 +4,8 @@ ghost use Rattle.std.specs.Prelude.{IfSome};
 ghost use Rattle.ug_rules.specs.Books.{AreSettings};
 
 use ug_branch::Base;
+use ug_model::Visit;
 use ug_rules::Settings;
-use ug_serve::Visit;
 
 /// How workers are visited before each is visited in its turn, with all that there is.
 #[derive(Clone, Copy)]
