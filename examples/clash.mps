@@ -1,0 +1,52 @@
+* A roster of Ann, Bob and Cay for two days that has no point: X.D is 1 if X works on day D.
+* Two are needed on each day. Bob and Cay share a car and never work on the same day, and Ann is away on Monday.
+* Each works on one or two days, and the wages are at most 500. Which of these rows are in conflict?
+NAME clash
+ROWS
+ N WAGES
+ G MONDAY
+ G TUESDAY
+ L CAR.MON
+ L CAR.TUE
+ E ANN.AWAY
+ L ANN.DAYS
+ L BOB.DAYS
+ L CAY.DAYS
+ G BUDGET
+COLUMNS
+ M 'MARKER' 'INTORG'
+ ANN.MON WAGES 90 MONDAY 1
+ ANN.MON ANN.AWAY 1 ANN.DAYS 1
+ ANN.MON BUDGET -90
+ ANN.TUE WAGES 90 TUESDAY 1
+ ANN.TUE ANN.DAYS 1 BUDGET -90
+ BOB.MON WAGES 80 MONDAY 1
+ BOB.MON CAR.MON 1 BOB.DAYS 1
+ BOB.MON BUDGET -80
+ BOB.TUE WAGES 80 TUESDAY 1
+ BOB.TUE CAR.TUE 1 BOB.DAYS 1
+ BOB.TUE BUDGET -80
+ CAY.MON WAGES 70 MONDAY 1
+ CAY.MON CAR.MON 1 CAY.DAYS 1
+ CAY.MON BUDGET -70
+ CAY.TUE WAGES 70 TUESDAY 1
+ CAY.TUE CAR.TUE 1 CAY.DAYS 1
+ CAY.TUE BUDGET -70
+ M 'MARKER' 'INTEND'
+RHS
+ S MONDAY 2 TUESDAY 2
+ S CAR.MON 1 CAR.TUE 1
+ S ANN.DAYS 2 BOB.DAYS 2
+ S CAY.DAYS 2 BUDGET -500
+* 1 to 2 days: the range of a row of type L is below its right-hand side.
+RANGES
+ S ANN.DAYS 1 BOB.DAYS 1
+ S CAY.DAYS 1
+BOUNDS
+ BV B ANN.MON
+ BV B ANN.TUE
+ BV B BOB.MON
+ BV B BOB.TUE
+ BV B CAY.MON
+ BV B CAY.TUE
+ENDATA
